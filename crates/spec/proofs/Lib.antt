@@ -1,0 +1,12 @@
+-- What follows from the definitions of `specs/`. No contract cites these files.
+pub mod BoolLaws
+pub mod LogicLaws
+pub mod QuestionLaws
+pub mod RuleLaws
+pub mod ValueLaws
+pub mod FactLaws
+pub mod ClosingLaws
+pub mod SoundLaws
+pub mod StoredLaws
+pub mod Compute
+pub mod Cases

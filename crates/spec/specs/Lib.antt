@@ -1,0 +1,10 @@
+pub mod Logic
+pub mod Questions
+pub mod Rule
+pub mod Judging
+pub mod Script
+pub mod Facts
+pub mod Check
+pub mod Machine
+pub mod Plain
+pub mod Weaver
