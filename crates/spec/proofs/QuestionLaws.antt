@@ -4,6 +4,7 @@
 --     ask-in, ask-out, ask-yes, ask-no                 a question put to every place: yes, and no at the lowest failing place
 --     first-found                                      what `firstFailing` found fails, and all lower places pass
 --     Scanned, scanned-start, scanned-next, scanned-stop, scanned-end    a loop that looks for the lowest failing place
+--     scan-no, scan-yes                                a loop that puts a question to every place
 --     below-in, below-out                              `allBelow` in and out
 -- Assumes nothing.
 use mathlib.Core.Path.{_≡_, refl, sym, ap, _∙_}
@@ -131,6 +132,13 @@ ask-no q n ok i e = ap (noAt q) e
 pub ask-yes : (q n : ℕ) (ok : ℕ → Bool) → firstFailing n 0 ok ≡ none → ask q n ok ≡ passed tt
 unfolding ask
 ask-yes q n ok e = ap (noAt q) e
+
+-- a loop that puts question q to every place stops at a no, or goes through
+pub scan-no : (q n : ℕ) (ok : ℕ → Bool) (i : ℕ) → i < n → ok i ≡ false → Scanned ok n i → refused q i ≡ ask q n ok
+scan-no q n ok i h e s = sym (ask-no q n ok i (scanned-stop ok n i h e s))
+
+pub scan-yes : (q n : ℕ) (ok : ℕ → Bool) (i : ℕ) → n ≤ i → Scanned ok n i → passed tt ≡ ask q n ok
+scan-yes q n ok i h s = sym (ask-yes q n ok (scanned-end ok n i h s))
 
 pub ask-out : (q n : ℕ) (ok : ℕ → Bool) → ask q n ok ≡ passed tt → (k : ℕ) → k < n → ok k ≡ true
 unfolding ask

@@ -2,13 +2,14 @@
 --     Small, fields-word, word-fields        an instruction's fields and its word
 --     instruction-stored, stored-fit         an instruction is read back from its word, which question 6 allows
 --     GoodForm, good32                       what the proofs take from a stored form, and document 01's form has it
---     word-small, bit-at                     a fact word and its bits
+--     word-small, nodes-stored, no-nodes     a fact word and its nodes
 --     Storable, line-stored, lines-stored    a line is read back from its words, and so are lines
 --     eight-words, length-words, word-at     the words of stored lines
 --     length-read, line-of, instruction-of   the lines of stored words
 -- Assumes nothing.
 use mathlib.Core.Path.{_≡_, refl, sym, ap, ap₂, _∙_}
-use mathlib.Core.Bool.{Bool, true, false, cond, _&&_}
+use mathlib.Core.Logic.{inl, inr}
+use mathlib.Core.Bool.{Bool, true, false, cond}
 use mathlib.Core.List.{List, [], _∷_, _++_}
 use Prim.Native.Nat.{ℕ, zero, suc, _+_, _-_, _*_, _/_, _%_, _^_, _≤_, _<_}
 use native.Mathlib.Nat.{mul-add-div-right, mul-assoc, zero-add, add-assoc, div-one}
@@ -16,14 +17,14 @@ use native.Mathlib.Omega.{arith}
 use lib.ListN.{length, getD, take, drop, length-append}
 use lib.Seq.{getD-drop, getD-take, drop-drop}
 use lib.Pow.{pow-pos, pow-add, high, mod-pow-add, recompose}
-use lib.Dec.{eqb, ltb}
-use borrow.Author.Tests.{lt-ltb, ltb-true, eq-eqb}
+use lib.Dec.{eqb}
+use borrow.Author.Tests.{lt-ltb, le-ltb, eq-eqb}
 use Rattle.spec.specs.Logic.{Test, equal, below}
 use Rattle.spec.specs.Rule.{NodeFields, nodeFields, Form, form32, nodeOf, falseNode}
 use Rattle.spec.specs.Script.{Source, constant, copyOf, plus, nextInput, Condition, ifTest, ifKept, ifWork, Instruction, halt, write, branch, goto, present, setWork, keep, Fields, fieldsOf, wordOf, instructionOf, instructionRead, fieldsFor, wordFor, storedFit}
 use Rattle.spec.specs.Facts.{Fact, valueIs, priorIs, keptIsPrior, workIsNext, workIsPrior, wordNumber}
-use Rattle.spec.specs.Check.{Line, Lines, lineAt, factsRead, factWord, lineRead, lineWords, linesRead, linesOf, wordsOf}
-use Rattle.spec.proofs.BoolLaws.{clash, both-and, bool-ext}
+use Rattle.spec.specs.Check.{Line, Lines, lineAt, nodesIn, factsRead, factWord, lineRead, lineWords, linesRead, linesOf, wordsOf}
+use Rattle.spec.proofs.BoolLaws.{clash, both-and, bool-ext, le-or-lt}
 
 -- ---- an instruction's word
 
@@ -168,9 +169,14 @@ unfolding bit
 bit-true true = refl
 bit-true false = refl
 
--- bit k of a fact word, from the most significant
-pub bit-at : (n : ℕ) (p : ℕ → Bool) (k : ℕ) → k < n → eqb (factWord n 0 p / 2 ^ (n - 1 - k) % 2) 1 ≡ p k
-bit-at n p k l = rw (bit-digit n 0 p k l, zero-add k) (bit-true (p k))
+-- the nodes of a fact word are those of the set, as far as the word goes
+pub nodes-stored : (n : ℕ) (p : ℕ → Bool) (k : ℕ) → k < n → nodesIn n (factWord n 0 p) k ≡ p k
+unfolding nodesIn
+nodes-stored n p k l = rw (lt-ltb k n l, bit-digit n 0 p k l, zero-add k) (bit-true (p k))
+
+pub no-nodes : (n w k : ℕ) → n ≤ k → nodesIn n w k ≡ false
+unfolding nodesIn
+no-nodes n w k h = rw (le-ltb k n h)
 
 -- ---- a line's words
 
@@ -193,12 +199,12 @@ word-of form x workIsPrior rest = refl
 facts-stored : (form : Form) (x : Line) → Storable form x → (rest : List ℕ) (f : Fact) (k : ℕ)
     → factsRead (form .width) (drop 1 (take 8 (lineWords form x ++ rest))) f k ≡ x .annotation f k
 unfolding factsRead
-facts-stored form x s rest f k = rw (word-of form x f rest) (go (ltb k (form .width)) refl)
-  where
-    go : (b : Bool) → ltb k (form .width) ≡ b
-        → (b && eqb (factWord (form .width) 0 (x .annotation f) / 2 ^ (form .width - 1 - k) % 2) 1) ≡ x .annotation f k
-    go true e = bit-at (form .width) (x .annotation f) k (ltb-true k (form .width) e)
-    go false e = bool-ext _ _ (λ h. clash h refl) (λ h. clash (lt-ltb k (form .width) (s .narrow f k h)) e)
+facts-stored form x s rest f k =
+    rw (word-of form x f rest) (elim (le-or-lt (form .width) k) [
+      | inl h ↦ rw (no-nodes (form .width) (factWord (form .width) 0 (x .annotation f)) k h)
+          (bool-ext _ _ (λ e. clash e refl) (λ e. let l = s .narrow f k e in absurd (omega arith)))
+      | inr h ↦ nodes-stored (form .width) (x .annotation f) k h
+    ])
 
 first-word : (form : Form) (x : Line) (rest : List ℕ) → getD (take 8 (lineWords form x ++ rest)) 0 0 ≡ form .storeFirst (wordFor (x .instruction))
 unfolding lineWords

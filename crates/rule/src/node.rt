@@ -1,0 +1,32 @@
+// Reading a node's word.
+ghost use mathlib.Core.Path.{_≡_};
+ghost use Rattle.spec.specs.Rule.{nodeFields, nodeOf};
+ghost use Rattle.rule.specs.Nodes.{nodeRead};
+
+// A node; operands are node numbers.
+pub enum Node {
+    False,
+    Equal { register: usize, constant: u16 },
+    Below { register: usize, constant: u16 },
+    Implies { left: usize, right: usize },
+    Since { left: usize, right: usize },
+    WeakPrevious { left: usize },
+}
+
+pub fn read_node(word: u32) -> Node
+    ensures { λ r. ⌜ nodeRead r ≡ nodeOf (nodeFields word) ⌝ }
+{
+    let kind = word / 536870912 % 8;
+    let register = (word / 33554432 % 16) as usize;
+    let constant = (word / 2048 % 16384) as u16;
+    let left = (word / 64 % 32) as usize;
+    let right = (word / 2 % 32) as usize;
+    match kind {
+        1 => Node::Equal { register, constant },
+        2 => Node::Below { register, constant },
+        3 => Node::Implies { left, right },
+        4 => Node::Since { left, right },
+        5 => Node::WeakPrevious { left },
+        _ => Node::False,
+    }
+}
