@@ -1,19 +1,45 @@
 -- Reading a node's word, and the table of a rule's words.
---     other-kind      any kind but 1 to 5 is read as false
+--     kind-1 .. kind-5, other-kind    what each kind is read as; any but 1 to 5 is read as false
+--     since-kind, weak-kind, past-either    which kinds are past nodes
 --     node-at         node k of the table is read from word k
 --     lower-at        question 3 at node k, by the word
 --     rest-of-table   the table from node k on starts with node k
 -- Assumes nothing.
 use mathlib.Core.Path.{_≡_, refl, sym, ap, _∙_}
-use mathlib.Core.List.{List, _∷_}
+use mathlib.Core.Bool.{Bool, _||_}
+use mathlib.Core.List.{List, [], _∷_}
 use Prim.Native.Nat.{ℕ, zero, suc, _<_}
 use lib.ListN.{length, getD, drop}
 use lib.Seq.{drop-cons}
-use lib.Dec.{ltb}
+use lib.Dec.{ltb, eqb}
+use native.Mathlib.Omega.{arith}
+use borrow.Author.Tests.{ne-eqb}
+use Rattle.spec.specs.Logic.{equal, below}
 use Rattle.spec.specs.Questions.{all}
-use Rattle.spec.specs.Rule.{NodeFields, nodeFields, form32, nodeOf, falseNode, tableOf, nodeAt, operands, operandsLower}
+use Rattle.spec.specs.Rule.{NodeFields, nodeFields, form32, Node, nodeOf, falseNode, testNode, impliesNode, sinceNode, weakPreviousNode, tableOf, nodeAt, isSince, isWeakPrevious, isPast, operands, operandsLower}
 use Rattle.spec.proofs.RuleLaws.{node-read, length-table}
 use Rattle.spec.proofs.StoredLaws.{good32}
+
+module _ (f : NodeFields) where
+  pub kind-1 : f .kind ≡ 1 → nodeOf f ≡ testNode (equal (f .register) (f .constant))
+  unfolding nodeOf
+  kind-1 e = rw e
+
+  pub kind-2 : f .kind ≡ 2 → nodeOf f ≡ testNode (below (f .register) (f .constant))
+  unfolding nodeOf
+  kind-2 e = rw e
+
+  pub kind-3 : f .kind ≡ 3 → nodeOf f ≡ impliesNode (f .left) (f .right)
+  unfolding nodeOf
+  kind-3 e = rw e
+
+  pub kind-4 : f .kind ≡ 4 → nodeOf f ≡ sinceNode (f .left) (f .right)
+  unfolding nodeOf
+  kind-4 e = rw e
+
+  pub kind-5 : f .kind ≡ 5 → nodeOf f ≡ weakPreviousNode (f .left)
+  unfolding nodeOf
+  kind-5 e = rw e
 
 pub other-kind : (f : NodeFields) → (f .kind ≡ 1 → ⊥) → (f .kind ≡ 2 → ⊥) → (f .kind ≡ 3 → ⊥) → (f .kind ≡ 4 → ⊥) → (f .kind ≡ 5 → ⊥)
     → nodeOf f ≡ falseNode
@@ -28,6 +54,44 @@ other-kind f n₁ n₂ n₃ n₄ n₅ = go (f .kind) refl
     go (suc (suc (suc (suc zero)))) e = absurd (n₄ e)
     go (suc (suc (suc (suc (suc zero))))) e = absurd (n₅ e)
     go (suc (suc (suc (suc (suc (suc k)))))) e = rw e
+
+module _ (f : NodeFields) where
+  abbrev Kinds : (Node → Bool) → (ℕ → Bool) → Type 0
+  Kinds is at = (k : ℕ) → is (getD (falseNode ∷ testNode (equal (f .register) (f .constant)) ∷ testNode (below (f .register) (f .constant))
+      ∷ impliesNode (f .left) (f .right) ∷ sinceNode (f .left) (f .right) ∷ weakPreviousNode (f .left) ∷ []) k falseNode) ≡ at k
+
+  since-at : Kinds isSince (λ k. eqb k 4)
+  since-at zero = refl
+  since-at (suc zero) = refl
+  since-at (suc (suc zero)) = refl
+  since-at (suc (suc (suc zero))) = refl
+  since-at (suc (suc (suc (suc zero)))) = refl
+  since-at (suc (suc (suc (suc (suc zero))))) = refl
+  since-at (suc (suc (suc (suc (suc (suc k)))))) = sym (ne-eqb (suc (suc (suc (suc (suc (suc k)))))) 4 (λ e. omega arith))
+
+  weak-at : Kinds isWeakPrevious (λ k. eqb k 5)
+  weak-at zero = refl
+  weak-at (suc zero) = refl
+  weak-at (suc (suc zero)) = refl
+  weak-at (suc (suc (suc zero))) = refl
+  weak-at (suc (suc (suc (suc zero)))) = refl
+  weak-at (suc (suc (suc (suc (suc zero))))) = refl
+  weak-at (suc (suc (suc (suc (suc (suc k)))))) = sym (ne-eqb (suc (suc (suc (suc (suc (suc k)))))) 5 (λ e. omega arith))
+
+  pub since-kind : isSince (nodeOf f) ≡ eqb (f .kind) 4
+  unfolding nodeOf
+  since-kind = since-at (f .kind)
+
+  pub weak-kind : isWeakPrevious (nodeOf f) ≡ eqb (f .kind) 5
+  unfolding nodeOf
+  weak-kind = weak-at (f .kind)
+
+pub past-either : (x : Node) → isPast x ≡ isSince x || isWeakPrevious x
+past-either falseNode = refl
+past-either (testNode a) = refl
+past-either (impliesNode l r) = refl
+past-either (sinceNode l r) = refl
+past-either (weakPreviousNode l) = refl
 
 pub node-at : (rule : List ℕ) (k : ℕ) → nodeAt (tableOf form32 rule) k ≡ nodeOf (nodeFields (getD rule k 0))
 unfolding form32

@@ -48,7 +48,7 @@ mention-counts : (s : Tallied) (c : ℕ → ℕ) (j : ℕ) → j < 64 → Counts
 unfolding mention
 mention-counts s c j h n = record {
   once-is = λ k. adding-is (s .once) j true h k ∙ ap₂ (λ a b. a || b && true) (n .once-is k) (same k) ∙ once-up (c k) (eqb j k);
-  twice-is = λ k. adding-is (s .twice) j (s .once j) h k ∙ ap (λ a. a || eqb k j && s .once j) (n .twice-is k) ∙ at-j k (decided (eqb j k)) ;
+  twice-is = λ k. adding-is (s .twice) j (s .once j) h k ∙ ap (λ a. a || eqb k j && s .once j) (n .twice-is k) ∙ at-j k (decided (eqb j k));
 }
   where
     same : (k : ℕ) → eqb k j ≡ eqb j k

@@ -1,6 +1,6 @@
 // Reading a node's word.
 ghost use mathlib.Core.Path.{_≡_};
-ghost use Rattle.spec.specs.Rule.{nodeFields, nodeOf};
+ghost use Rattle.spec.specs.Rule.{nodeFields, nodeOf, isSince, isWeakPrevious, isPast};
 ghost use Rattle.rule.specs.Nodes.{nodeRead};
 
 // A node; operands are node numbers.
@@ -29,4 +29,22 @@ pub fn read_node(word: u32) -> Node
         5 => Node::WeakPrevious { left },
         _ => Node::False,
     }
+}
+
+pub fn is_since(word: u32) -> bool
+    ensures { λ r. ⌜ r ≡ isSince (nodeOf (nodeFields word)) ⌝ }
+{
+    word / 536870912 % 8 == 4
+}
+
+pub fn is_weak_previous(word: u32) -> bool
+    ensures { λ r. ⌜ r ≡ isWeakPrevious (nodeOf (nodeFields word)) ⌝ }
+{
+    word / 536870912 % 8 == 5
+}
+
+pub fn is_past(word: u32) -> bool
+    ensures { λ r. ⌜ r ≡ isPast (nodeOf (nodeFields word)) ⌝ }
+{
+    is_since(word) | is_weak_previous(word)
 }

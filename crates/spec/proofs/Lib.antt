@@ -4,6 +4,7 @@ pub mod LogicLaws
 pub mod QuestionLaws
 pub mod RuleLaws
 pub mod ValueLaws
+pub mod JudgingLaws
 pub mod FactLaws
 pub mod ClosingLaws
 pub mod SoundLaws
