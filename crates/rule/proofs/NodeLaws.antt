@@ -6,17 +6,19 @@
 --     rest-of-table   the table from node k on starts with node k
 -- Assumes nothing.
 use mathlib.Core.Path.{_≡_, refl, sym, ap, _∙_}
+use mathlib.Core.Logic.{inl, inr}
 use mathlib.Core.Bool.{Bool, _||_}
-use mathlib.Core.List.{List, [], _∷_}
+use mathlib.Core.List.{List, _∷_}
 use Prim.Native.Nat.{ℕ, zero, suc, _<_}
-use lib.ListN.{length, getD, drop}
+use lib.ListN.{length, getD, drop, List·getD-eq-default}
 use lib.Seq.{drop-cons}
 use lib.Dec.{ltb, eqb}
 use native.Mathlib.Omega.{arith}
 use borrow.Author.Tests.{ne-eqb}
 use Rattle.spec.specs.Logic.{equal, below}
 use Rattle.spec.specs.Questions.{all}
-use Rattle.spec.specs.Rule.{NodeFields, nodeFields, form32, Node, nodeOf, falseNode, testNode, impliesNode, sinceNode, weakPreviousNode, tableOf, nodeAt, isSince, isWeakPrevious, isPast, operands, operandsLower}
+use Rattle.spec.specs.Rule.{NodeFields, nodeFields, form32, Node, byKind, nodeOf, falseNode, testNode, impliesNode, sinceNode, weakPreviousNode, tableOf, nodeAt, isSince, isWeakPrevious, isPast, operands, operandsLower}
+use Rattle.spec.proofs.BoolLaws.{le-or-lt}
 use Rattle.spec.proofs.RuleLaws.{node-read, length-table}
 use Rattle.spec.proofs.StoredLaws.{good32}
 
@@ -44,21 +46,15 @@ module _ (f : NodeFields) where
 pub other-kind : (f : NodeFields) → (f .kind ≡ 1 → ⊥) → (f .kind ≡ 2 → ⊥) → (f .kind ≡ 3 → ⊥) → (f .kind ≡ 4 → ⊥) → (f .kind ≡ 5 → ⊥)
     → nodeOf f ≡ falseNode
 unfolding nodeOf
-other-kind f n₁ n₂ n₃ n₄ n₅ = go (f .kind) refl
-  where
-    go : (k : ℕ) → f .kind ≡ k → nodeOf f ≡ falseNode
-    go zero e = rw e
-    go (suc zero) e = absurd (n₁ e)
-    go (suc (suc zero)) e = absurd (n₂ e)
-    go (suc (suc (suc zero))) e = absurd (n₃ e)
-    go (suc (suc (suc (suc zero)))) e = absurd (n₄ e)
-    go (suc (suc (suc (suc (suc zero))))) e = absurd (n₅ e)
-    go (suc (suc (suc (suc (suc (suc k)))))) e = rw e
+other-kind f n₁ n₂ n₃ n₄ n₅ =
+    elim (le-or-lt 6 (f .kind)) [
+      | inl h ↦ List·getD-eq-default (byKind f) falseNode h
+      | inr h ↦ let e : f .kind ≡ 0 = omega arith in rw e
+    ]
 
 module _ (f : NodeFields) where
   abbrev Kinds : (Node → Bool) → (ℕ → Bool) → Type 0
-  Kinds is at = (k : ℕ) → is (getD (falseNode ∷ testNode (equal (f .register) (f .constant)) ∷ testNode (below (f .register) (f .constant))
-      ∷ impliesNode (f .left) (f .right) ∷ sinceNode (f .left) (f .right) ∷ weakPreviousNode (f .left) ∷ []) k falseNode) ≡ at k
+  Kinds is at = (k : ℕ) → is (getD (byKind f) k falseNode) ≡ at k
 
   since-at : Kinds isSince (λ k. eqb k 4)
   since-at zero = refl

@@ -9,5 +9,6 @@ pub mod FactLaws
 pub mod ClosingLaws
 pub mod SoundLaws
 pub mod StoredLaws
+pub mod OpcodeLaws
 pub mod Compute
 pub mod Cases

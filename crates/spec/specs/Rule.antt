@@ -54,11 +54,14 @@ pub data Node : Type 0 where
   sinceNode : ℕ → ℕ → Node
   weakPreviousNode : ℕ → Node
 
--- kinds 0 false, 1 equal, 2 below, 3 implies, 4 since, 5 weak previous
+-- what the fields are read as, by kind: 0 false, 1 equal, 2 below, 3 implies, 4 since, 5 weak previous
+abbrev pub byKind : NodeFields → List Node
+byKind f =
+    falseNode ∷ testNode (equal (f .register) (f .constant)) ∷ testNode (below (f .register) (f .constant))
+    ∷ impliesNode (f .left) (f .right) ∷ sinceNode (f .left) (f .right) ∷ weakPreviousNode (f .left) ∷ []
+
 unfoldable pub nodeOf : NodeFields → Node
-nodeOf f =
-    getD (falseNode ∷ testNode (equal (f .register) (f .constant)) ∷ testNode (below (f .register) (f .constant))
-    ∷ impliesNode (f .left) (f .right) ∷ sinceNode (f .left) (f .right) ∷ weakPreviousNode (f .left) ∷ []) (f .kind) falseNode
+nodeOf f = getD (byKind f) (f .kind) falseNode
 
 -- a rule is a table of nodes
 abbrev pub Table : Type 0

@@ -85,13 +85,18 @@ fieldsOf w = record { opcode = field 28 4 w; r = field 24 4 w; c = field 10 14 w
 unfoldable pub wordOf : Fields → ℕ
 wordOf f = f .opcode * 2 ^ 28 + f .r * 2 ^ 24 + f .c * 2 ^ 10 + f .target
 
--- by opcode, from 0
+-- what the fields are read as, by opcode from 0
+abbrev pub byOpcode : Fields → List Instruction
+byOpcode f =
+    halt
+    ∷ write (f .r) (constant (f .c)) ∷ write (f .r) (copyOf (f .c)) ∷ write (f .r) (plus (f .c)) ∷ write (f .r) nextInput
+    ∷ branch (ifTest (equal (f .r) (f .c))) (f .target) ∷ branch (ifTest (below (f .r) (f .c))) (f .target) ∷ goto (f .target)
+    ∷ present
+    ∷ setWork (f .c) (eqb (f .r) 1) ∷ branch (ifKept (f .c)) (f .target) ∷ branch (ifWork (f .c)) (f .target) ∷ keep (f .c)
+    ∷ []
+
 unfoldable pub instructionOf : Fields → Instruction
-instructionOf f =
-    getD (halt ∷ write (f .r) (constant (f .c)) ∷ write (f .r) (copyOf (f .c)) ∷ write (f .r) (plus (f .c)) ∷ write (f .r) nextInput
-    ∷ branch (ifTest (equal (f .r) (f .c))) (f .target) ∷ branch (ifTest (below (f .r) (f .c))) (f .target) ∷ goto (f .target) ∷ present
-    ∷ setWork (f .c) (eqb (f .r) 1) ∷ branch (ifKept (f .c)) (f .target) ∷ branch (ifWork (f .c)) (f .target) ∷ keep (f .c) ∷ [])
-    (f .opcode) halt
+instructionOf f = getD (byOpcode f) (f .opcode) halt
 
 unfoldable pub instructionRead : ℕ → Instruction
 instructionRead w = instructionOf (fieldsOf w)
