@@ -1,6 +1,6 @@
 // Reading a node's word.
 ghost use mathlib.Core.Path.{_≡_};
-ghost use Rattle.spec.specs.Rule.{nodeFields, nodeOf, isSince, isWeakPrevious, isPast};
+ghost use Rattle.spec.specs.Rule.{form32, nodeFields, nodeOf, tableOf, nodeAt, isSince, isWeakPrevious, isPast};
 ghost use Rattle.rule.specs.Nodes.{nodeRead};
 
 // A node; operands are node numbers.
@@ -47,4 +47,15 @@ pub fn is_past(word: u32) -> bool
     ensures { λ r. ⌜ r ≡ isPast (nodeOf (nodeFields word)) ⌝ }
 {
     is_since(word) | is_weak_previous(word)
+}
+
+// Whether node k of the rule is there and is a past node.
+pub fn past_at(rule: &[u32], k: usize) -> bool
+    ensures { λ r. ⌜ r ≡ isPast (nodeAt (tableOf form32 (now (rule .entry))) k) ⌝ }
+{
+    if k < rule.len() {
+        is_past(rule[k])
+    } else {
+        false
+    }
 }
