@@ -1,0 +1,2 @@
+pub mod FactSetLaws
+pub mod GroupLaws

@@ -1,0 +1,3 @@
+// The checker: facts, closing, passing on, and questions 8 to 11.
+pub mod closing;
+pub mod facts;
