@@ -1,2 +1,3 @@
 pub mod FactSetLaws
 pub mod GroupLaws
+pub mod PassLaws

@@ -1,6 +1,6 @@
 // Reading a node's word.
 ghost use mathlib.Core.Path.{_≡_};
-ghost use Rattle.spec.specs.Rule.{form32, nodeFields, nodeOf, tableOf, nodeAt, isSince, isWeakPrevious, isPast};
+ghost use Rattle.spec.specs.Rule.{form32, nodeFields, nodeOf, tableOf, nodeAt, isSince, isWeakPrevious, isPast, nextOf};
 ghost use Rattle.rule.specs.Nodes.{nodeRead};
 
 // A node; operands are node numbers.
@@ -57,5 +57,21 @@ pub fn past_at(rule: &[u32], k: usize) -> bool
         is_past(rule[k])
     } else {
         false
+    }
+}
+
+// The node whose value now is the next prior of node k: for weak previous its operand, else k itself.
+pub fn next_of(rule: &[u32], k: usize) -> usize
+    ensures { λ r. ⌜ r ≡ nextOf (tableOf form32 (now (rule .entry))) k ⌝ }
+{
+    if k < rule.len() {
+        let word = rule[k];
+        if word / 536870912 % 8 == 5 {
+            (word / 64 % 32) as usize
+        } else {
+            k
+        }
+    } else {
+        k
     }
 }

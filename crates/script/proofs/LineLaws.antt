@@ -1,6 +1,6 @@
 -- Questions 6 and 7 at a line, by opcode.
 --     same, bit-fit       a number is itself; a set bit is 0 or 1
---     above               a number that is at least n and not n is above it
+--     beyond              an opcode that is none of 0 to 12 is above them
 --     names-other         opcodes that name neither a register in c nor a node
 --     target-by, next-by  which opcodes have a target, and which go on to the next line
 --     follow-by           question 7 from the two
@@ -18,8 +18,20 @@ use Rattle.spec.specs.Rule.{Table}
 use Rattle.spec.specs.Script.{Instruction, halt, Fields, byOpcode, instructionOf, namesAllowed, targetOf, goesOn, isLine, followersExist}
 use Rattle.spec.proofs.OpcodeLaws.{by-opcode}
 
-pub above : (n k : ℕ) → n ≤ k → (k ≡ n → ⊥) → suc n ≤ k
+above : (n k : ℕ) → n ≤ k → (k ≡ n → ⊥) → suc n ≤ k
 above n k h e = omega arith
+
+-- none of the first n
+abbrev pub NotBelow : Type 0 → ℕ → ℕ → Type 0
+NotBelow X zero k = X
+NotBelow X (suc n) k = NotBelow X n k × (k ≡ n → ⊥)
+
+not-below : (X : Type 0) (n k : ℕ) → NotBelow X n k → n ≤ k
+not-below X zero k e = omega arith
+not-below X (suc n) k e = above n k (not-below X n k (e .0)) (e .1)
+
+pub beyond : {X : Type 0} (k : ℕ) → NotBelow X 13 k → 13 ≤ k
+beyond {X} k e = not-below X 13 k e
 
 pub same : (x : ℕ) → eqb x x ≡ true
 same x = eq-eqb x x refl

@@ -1,0 +1,28 @@
+use mathlib.Core.Path.{sym, ap, _∙_}
+use Rattle.spec.specs.Facts.{priorIs}
+use Rattle.checker.specs.FactSets.{factsOf}
+use borrow.Author.Needs.{needs}
+use Rattle.checker.proofs.passing.knows_prior.Statement.{statement}
+use Rattle.checker.proofs.passing.knows_prior.Tie as tie
+use Rattle.checker.proofs.passing.knows_prior.Reads as reads
+use Rattle.checker.proofs.passing.knows_prior.Lts as lts
+use Rattle.sets.proofs.has.Reads as has-reads
+
+-- src/passing.rt:33:14
+has-requires : tie.Need-has-requires
+has-requires c κs = search needs
+
+-- src/passing.rt:33:35
+has-requires-2 : tie.Need-has-requires-2
+has-requires-2 c κs = search needs
+
+-- src/passing.rt:30:1
+returns : tie.Need-returns
+returns c = c .has .ensures ∙ ap (λ b. factsOf (c .before .before .args .x) (priorIs b) (c .before .before .args .k)) (sym (c .before .if1 .taken))
+
+-- src/passing.rt:30:1
+returns-2 : tie.Need-returns-2
+returns-2 c = c .has2 .ensures ∙ ap (λ b. factsOf (c .before .before .args .x) (priorIs b) (c .before .before .args .k)) (sym (c .before .if1 .left))
+
+pub knows-prior-spec : {M : Type 1} → statement M
+knows-prior-spec = tie.close (tie.spec has-requires has-requires-2 returns returns-2)
