@@ -49,7 +49,7 @@ pub fn read_facts(script: &[u32], l: usize) -> Facts
 }
 
 // Whether every fact of x is in y.
-pub fn among(x: Facts, y: Facts) -> bool
+pub fn is_among(x: Facts, y: Facts) -> bool
     ensures { λ r. ⌜ r ≡ amongBelow capacity (factsOf x) (factsOf y) ⌝ }
 {
     subset(x.t, y.t)

@@ -86,7 +86,14 @@ fn test_nodes(rule: &[u32], below: bool, register: u32, constant: u32) -> u64
 }
 
 // 5 and 6: the nodes with the same test are true at the target, false at the next line.
-fn learn_test(rule: &[u32], below: bool, register: u32, constant: u32, taken: bool, x: Facts) -> Facts
+fn learn_test(
+    rule: &[u32],
+    below: bool,
+    register: u32,
+    constant: u32,
+    taken: bool,
+    x: Facts,
+) -> Facts
     requires { ⌜ length (now rule) ≤ capacity ⌝ }
     ensures { λ r. ⌜ factsOf r ≡ factsOf x ∪ learned (tableOf form32 (now (rule .entry))) (ifTest (testFor below register constant)) taken (factsOf x) ⌝ }
 {

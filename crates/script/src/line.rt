@@ -7,7 +7,7 @@ ghost use Prim.Native.Nat.{_*_, _≤_, _<_};
 ghost use lib.Dec.{leb};
 ghost use lib.ListN.{length};
 ghost use Rattle.spec.specs.Rule.{form32, tableOf};
-ghost use Rattle.spec.specs.Script.{fieldsOf, instructionRead, targetOf, goesOn, storedFit, namesAllowed, followersExist, question6, question7, checkCode};
+ghost use Rattle.spec.specs.Script.{fieldsOf, instructionRead, isPresent, targetOf, goesOn, storedFit, namesAllowed, followersExist, question6, question7, checkCode};
 ghost use Rattle.rule.specs.Answers.{answerOf};
 ghost use Rattle.script.specs.Lines.{wordAllowed, targetWhere, strided};
 
@@ -74,6 +74,12 @@ pub fn goes_on(word: u32) -> bool
 {
     let opcode = word / 268435456 % 16;
     (opcode != 0) & (opcode != 7) & (opcode <= 12)
+}
+
+pub fn is_present(word: u32) -> bool
+    ensures { λ r. ⌜ r ≡ isPresent (instructionRead word) ⌝ }
+{
+    word / 268435456 % 16 == 8
 }
 
 // Question 7 at line l of `lines`.

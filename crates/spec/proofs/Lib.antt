@@ -10,5 +10,6 @@ pub mod ClosingLaws
 pub mod SoundLaws
 pub mod StoredLaws
 pub mod OpcodeLaws
+pub mod CodeLaws
 pub mod Compute
 pub mod Cases
