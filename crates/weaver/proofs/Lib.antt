@@ -1,0 +1,4 @@
+-- `OverLaws`: words written at the start of an output, one part after another. `GrowthLaws`: a fact more.
+pub mod OverLaws
+pub mod GrowthLaws
+pub mod SimpleLaws

@@ -1,0 +1,105 @@
+use lib.ListN.{set}
+use Rattle.weaver.proofs.OverLaws.{eight-set, set-in}
+use Rattle.weaver.specs.Written.{storedLine}
+use Rattle.spec.specs.Rule.{form32}
+use lib.ListN.{length-set}
+use native.Mathlib.Omega.{arith}
+use mathlib.Core.Path.{refl, _∙_}
+use borrow.Author.Needs.{needs}
+use Rattle.weaver.proofs.line.put_line.Statement.{statement}
+use Rattle.weaver.proofs.line.put_line.Tie as tie
+use Rattle.weaver.proofs.line.put_line.Reads as reads
+use Rattle.weaver.proofs.line.put_line.Lts as lts
+use Rattle.sets.proofs.to_word32.Reads as to-word32-reads
+
+-- src/line.rt:43:9
+to-word32-requires : tie.Need-to-word32-requires
+to-word32-requires c κs = search needs
+
+-- src/line.rt:44:9
+to-word32-requires-2 : tie.Need-to-word32-requires-2
+to-word32-requires-2 c κs = search needs
+
+-- src/line.rt:45:9
+to-word32-requires-3 : tie.Need-to-word32-requires-3
+to-word32-requires-3 c κs = search needs
+
+-- src/line.rt:46:9
+to-word32-requires-4 : tie.Need-to-word32-requires-4
+to-word32-requires-4 c κs = search needs
+
+-- src/line.rt:47:9
+to-word32-requires-5 : tie.Need-to-word32-requires-5
+to-word32-requires-5 c κs = search needs
+
+-- src/line.rt:48:9
+to-word32-requires-6 : tie.Need-to-word32-requires-6
+to-word32-requires-6 c κs = search needs
+
+-- src/line.rt:49:9
+to-word32-requires-7 : tie.Need-to-word32-requires-7
+to-word32-requires-7 c κs = search needs
+
+-- src/line.rt:50:5
+slice-write-out : tie.Need-slice-write-out
+slice-write-out c = search needs
+
+-- src/line.rt:51:5
+slice-write-out-2 : tie.Need-slice-write-out-2
+slice-write-out-2 c = let o = c .before .before .before .before .before .before .before .before .args .out .now in let o1 = set o 0 (c .before .before .before .before .before .before .before .before .args .word) in let e1 = length-set o 0 (c .before .before .before .before .before .before .before .before .args .word) in set-in o o1 1 e1 (c .before .before .before .before .before .before .before .before .pre) (omega arith)
+
+-- src/line.rt:52:5
+slice-write-out-3 : tie.Need-slice-write-out-3
+slice-write-out-3 c = let o = c .before .before .before .before .before .before .before .before .args .out .now in let o1 = set o 0 (c .before .before .before .before .before .before .before .before .args .word) in let e1 = length-set o 0 (c .before .before .before .before .before .before .before .before .args .word) in let o2 = set o1 1 (c .before .before .before .before .before .before .to-word32 .result) in let e2 = length-set o1 1 (c .before .before .before .before .before .before .to-word32 .result) ∙ e1 in set-in o o2 2 e2 (c .before .before .before .before .before .before .before .before .pre) (omega arith)
+
+-- src/line.rt:53:5
+slice-write-out-4 : tie.Need-slice-write-out-4
+slice-write-out-4 c = let o = c .before .before .before .before .before .before .before .before .args .out .now in let o1 = set o 0 (c .before .before .before .before .before .before .before .before .args .word) in let e1 = length-set o 0 (c .before .before .before .before .before .before .before .before .args .word) in let o2 = set o1 1 (c .before .before .before .before .before .before .to-word32 .result) in let e2 = length-set o1 1 (c .before .before .before .before .before .before .to-word32 .result) ∙ e1 in let o3 = set o2 2 (c .before .before .before .before .before .to-word322 .result) in let e3 = length-set o2 2 (c .before .before .before .before .before .to-word322 .result) ∙ e2 in set-in o o3 3 e3 (c .before .before .before .before .before .before .before .before .pre) (omega arith)
+
+-- src/line.rt:54:5
+slice-write-out-5 : tie.Need-slice-write-out-5
+slice-write-out-5 c = let o = c .before .before .before .before .before .before .before .before .args .out .now in let o1 = set o 0 (c .before .before .before .before .before .before .before .before .args .word) in let e1 = length-set o 0 (c .before .before .before .before .before .before .before .before .args .word) in let o2 = set o1 1 (c .before .before .before .before .before .before .to-word32 .result) in let e2 = length-set o1 1 (c .before .before .before .before .before .before .to-word32 .result) ∙ e1 in let o3 = set o2 2 (c .before .before .before .before .before .to-word322 .result) in let e3 = length-set o2 2 (c .before .before .before .before .before .to-word322 .result) ∙ e2 in let o4 = set o3 3 (c .before .before .before .before .to-word323 .result) in let e4 = length-set o3 3 (c .before .before .before .before .to-word323 .result) ∙ e3 in set-in o o4 4 e4 (c .before .before .before .before .before .before .before .before .pre) (omega arith)
+
+-- src/line.rt:55:5
+slice-write-out-6 : tie.Need-slice-write-out-6
+slice-write-out-6 c = let o = c .before .before .before .before .before .before .before .before .args .out .now in let o1 = set o 0 (c .before .before .before .before .before .before .before .before .args .word) in let e1 = length-set o 0 (c .before .before .before .before .before .before .before .before .args .word) in let o2 = set o1 1 (c .before .before .before .before .before .before .to-word32 .result) in let e2 = length-set o1 1 (c .before .before .before .before .before .before .to-word32 .result) ∙ e1 in let o3 = set o2 2 (c .before .before .before .before .before .to-word322 .result) in let e3 = length-set o2 2 (c .before .before .before .before .before .to-word322 .result) ∙ e2 in let o4 = set o3 3 (c .before .before .before .before .to-word323 .result) in let e4 = length-set o3 3 (c .before .before .before .before .to-word323 .result) ∙ e3 in let o5 = set o4 4 (c .before .before .before .to-word324 .result) in let e5 = length-set o4 4 (c .before .before .before .to-word324 .result) ∙ e4 in set-in o o5 5 e5 (c .before .before .before .before .before .before .before .before .pre) (omega arith)
+
+-- src/line.rt:56:5
+slice-write-out-7 : tie.Need-slice-write-out-7
+slice-write-out-7 c = let o = c .before .before .before .before .before .before .before .before .args .out .now in let o1 = set o 0 (c .before .before .before .before .before .before .before .before .args .word) in let e1 = length-set o 0 (c .before .before .before .before .before .before .before .before .args .word) in let o2 = set o1 1 (c .before .before .before .before .before .before .to-word32 .result) in let e2 = length-set o1 1 (c .before .before .before .before .before .before .to-word32 .result) ∙ e1 in let o3 = set o2 2 (c .before .before .before .before .before .to-word322 .result) in let e3 = length-set o2 2 (c .before .before .before .before .before .to-word322 .result) ∙ e2 in let o4 = set o3 3 (c .before .before .before .before .to-word323 .result) in let e4 = length-set o3 3 (c .before .before .before .before .to-word323 .result) ∙ e3 in let o5 = set o4 4 (c .before .before .before .to-word324 .result) in let e5 = length-set o4 4 (c .before .before .before .to-word324 .result) ∙ e4 in let o6 = set o5 5 (c .before .before .to-word325 .result) in let e6 = length-set o5 5 (c .before .before .to-word325 .result) ∙ e5 in set-in o o6 6 e6 (c .before .before .before .before .before .before .before .before .pre) (omega arith)
+
+-- src/line.rt:57:5
+slice-write-out-8 : tie.Need-slice-write-out-8
+slice-write-out-8 c = let o = c .before .before .before .before .before .before .before .before .args .out .now in let o1 = set o 0 (c .before .before .before .before .before .before .before .before .args .word) in let e1 = length-set o 0 (c .before .before .before .before .before .before .before .before .args .word) in let o2 = set o1 1 (c .before .before .before .before .before .before .to-word32 .result) in let e2 = length-set o1 1 (c .before .before .before .before .before .before .to-word32 .result) ∙ e1 in let o3 = set o2 2 (c .before .before .before .before .before .to-word322 .result) in let e3 = length-set o2 2 (c .before .before .before .before .before .to-word322 .result) ∙ e2 in let o4 = set o3 3 (c .before .before .before .before .to-word323 .result) in let e4 = length-set o3 3 (c .before .before .before .before .to-word323 .result) ∙ e3 in let o5 = set o4 4 (c .before .before .before .to-word324 .result) in let e5 = length-set o4 4 (c .before .before .before .to-word324 .result) ∙ e4 in let o6 = set o5 5 (c .before .before .to-word325 .result) in let e6 = length-set o5 5 (c .before .before .to-word325 .result) ∙ e5 in let o7 = set o6 6 (c .before .to-word326 .result) in let e7 = length-set o6 6 (c .before .to-word326 .result) ∙ e6 in set-in o o7 7 e7 (c .before .before .before .before .before .before .before .before .pre) (omega arith)
+
+-- src/line.rt:39:1
+same-length : tie.Need-same-length
+same-length c = search needs
+
+-- src/line.rt:39:1
+returns : tie.Need-returns
+unfolding storedLine form32
+returns c = eight-set (c .before .before .before .before .before .before .before .before .args .out .now) (c .before .before .before .before .before .before .before .before .pre) _ _ _ _ _ _ _ _
+    ∙ rw (c .before .before .before .before .before .before .to-word32 .ensures, c .before .before .before .before .before .to-word322 .ensures, c .before .before .before .before .to-word323 .ensures, c .before .before .before .to-word324 .ensures, c .before .before .to-word325 .ensures, c .before .to-word326 .ensures, c .to-word327 .ensures) refl
+
+pub put-line-spec : {M : Type 1} → statement M
+put-line-spec =
+    tie.close
+    (tie.spec
+    to-word32-requires
+    to-word32-requires-2
+    to-word32-requires-3
+    to-word32-requires-4
+    to-word32-requires-5
+    to-word32-requires-6
+    to-word32-requires-7
+    slice-write-out
+    slice-write-out-2
+    slice-write-out-3
+    slice-write-out-4
+    slice-write-out-5
+    slice-write-out-6
+    slice-write-out-7
+    slice-write-out-8
+    same-length
+    returns)

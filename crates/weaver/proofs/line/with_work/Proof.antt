@@ -1,0 +1,25 @@
+use Rattle.weaver.proofs.GrowthLaws.{one-other, one-own}
+use Rattle.checker.specs.FactSets.{factsOf}
+use Rattle.spec.proofs.FactLaws.{facts-ext}
+use Rattle.spec.specs.Facts.{valueIs, priorIs, keptIsPrior, workIsNext, workIsPrior, wordNumber}
+use mathlib.Core.Bool.{true, false}
+use mathlib.Core.Path.{refl}
+use borrow.Author.Needs.{needs}
+use Rattle.weaver.proofs.line.with_work.Statement.{statement}
+use Rattle.weaver.proofs.line.with_work.Tie as tie
+use Rattle.weaver.proofs.line.with_work.Reads as reads
+use Rattle.weaver.proofs.line.with_work.Lts as lts
+use Rattle.sets.proofs.with.Reads as with-reads
+
+-- src/line.rt:33:12
+with-requires : tie.Need-with-requires
+with-requires c κs = search needs
+
+-- src/line.rt:23:1
+returns : tie.Need-returns
+unfolding wordNumber
+returns c = let s = λ g d. one-other (factsOf (c .before .args .x)) workIsNext (c .before .args .k) g d in
+    facts-ext _ _ (s (valueIs true) refl) (s (valueIs false) refl) (s (priorIs true) refl) (s (priorIs false) refl) (s keptIsPrior refl) (one-own (factsOf (c .before .args .x)) workIsNext (c .before .args .k) _ (c .before .pre) (c .with .ensures)) (s workIsPrior refl)
+
+pub with-work-spec : {M : Type 1} → statement M
+with-work-spec = tie.close (tie.spec with-requires returns)
