@@ -11,5 +11,6 @@ pub mod SoundLaws
 pub mod StoredLaws
 pub mod OpcodeLaws
 pub mod CodeLaws
+pub mod WeaverLaws
 pub mod Compute
 pub mod Cases
