@@ -12,5 +12,6 @@ pub mod StoredLaws
 pub mod OpcodeLaws
 pub mod CodeLaws
 pub mod WeaverLaws
+pub mod SumLaws
 pub mod Compute
 pub mod Cases
