@@ -13,5 +13,8 @@ pub mod OpcodeLaws
 pub mod CodeLaws
 pub mod WeaverLaws
 pub mod SumLaws
+pub mod PlaceLaws
+pub mod AcceptedLaws
+pub mod SafetyLaws
 pub mod Compute
 pub mod Cases
