@@ -16,5 +16,6 @@ pub mod SumLaws
 pub mod PlaceLaws
 pub mod AcceptedLaws
 pub mod SafetyLaws
+pub mod RunLaws
 pub mod Compute
 pub mod Cases
