@@ -17,5 +17,7 @@ pub mod PlaceLaws
 pub mod AcceptedLaws
 pub mod SafetyLaws
 pub mod RunLaws
+pub mod FineLaws
+pub mod DecisionLaws
 pub mod Compute
 pub mod Cases
