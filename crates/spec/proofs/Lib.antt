@@ -19,5 +19,7 @@ pub mod SafetyLaws
 pub mod RunLaws
 pub mod FineLaws
 pub mod DecisionLaws
+pub mod SettingLaws
+pub mod UpdateLaws
 pub mod Compute
 pub mod Cases
