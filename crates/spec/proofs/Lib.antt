@@ -21,5 +21,6 @@ pub mod FineLaws
 pub mod DecisionLaws
 pub mod SettingLaws
 pub mod UpdateLaws
+pub mod BlockLaws
 pub mod Compute
 pub mod Cases
