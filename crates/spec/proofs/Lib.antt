@@ -22,5 +22,6 @@ pub mod DecisionLaws
 pub mod SettingLaws
 pub mod UpdateLaws
 pub mod BlockLaws
+pub mod WovenLaws
 pub mod Compute
 pub mod Cases
