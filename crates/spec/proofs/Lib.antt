@@ -23,5 +23,6 @@ pub mod SettingLaws
 pub mod UpdateLaws
 pub mod BlockLaws
 pub mod WovenLaws
+pub mod SmallLaws
 pub mod Compute
 pub mod Cases
