@@ -24,5 +24,6 @@ pub mod UpdateLaws
 pub mod BlockLaws
 pub mod WovenLaws
 pub mod SmallLaws
+pub mod HandedLaws
 pub mod Compute
 pub mod Cases

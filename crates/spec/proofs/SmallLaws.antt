@@ -2,7 +2,7 @@
 --     Fits, AllFit, fit-at      register and constant fit
 --     fits-test                 so it is for a branch on a test with a small register and constant
 --     weave-fits                so it is for every line of a woven script
---     fits-small                with a target that is one of at most 1,024 lines, the whole word fits
+--     opcode-most, fits-small                with a target that is one of at most 1,024 lines, the whole word fits
 -- Assumes nothing.
 use mathlib.Core.Path.{_≡_, refl, sym, subst, ap, _∙_}
 use mathlib.Core.Bool.{Bool, true, false, cond}
@@ -170,7 +170,7 @@ module _ (t : Table) (ordered : InOrder t) (few : length t ≤ 16384) (tests : (
 
 -- ---- the whole word
 
-opcode-most : (i : Instruction) → fieldsFor i .opcode ≤ 12
+pub opcode-most : (i : Instruction) → fieldsFor i .opcode ≤ 12
 unfolding fieldsFor
 opcode-most halt = omega arith
 opcode-most (write r (constant c)) = omega arith
