@@ -25,5 +25,6 @@ pub mod BlockLaws
 pub mod WovenLaws
 pub mod SmallLaws
 pub mod HandedLaws
+pub mod QuietLaws
 pub mod Compute
 pub mod Cases
