@@ -136,8 +136,7 @@ module _ (form : Form) (rule script inputs : List ℕ) (budget : ℕ) (lent : Li
       let (a, r) = running-parts in
       let start = fresh (tableOf form rule) lent in
       let s = run-steps budget (codeOf (linesOf form script)) inputs 0 start in
-      let count : e .stepCount ≡ s .many = ap (λ x. x .stepCount) (sym r) ∙ s .counted ∙ zero-add (s .many) in
-      (
+      let count : e .stepCount ≡ s .many = ap (λ x. x .stepCount) (sym r) ∙ s .counted ∙ zero-add (s .many) in (
         a,
         (let h = s .within in omega arith),
         ap (λ x. x .final) (sym r) ∙ s .reached ∙ ap (λ k. steps k (codeOf (linesOf form script)) inputs start) (sym count)

@@ -2,3 +2,4 @@
 pub mod OverLaws
 pub mod GrowthLaws
 pub mod SimpleLaws
+pub mod DecisionLaws

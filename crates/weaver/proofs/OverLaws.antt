@@ -1,6 +1,7 @@
 -- Words written at the start of an output, one part after another.
 --     eight-set                      eight stores are eight words first
 --     over-then                      words written into the part after those already written
+--     written-then                   lines written so
 --     words-append, stored-line      the words of lines
 --     length-stored                  a line has eight words
 -- Assumes nothing.
@@ -15,6 +16,7 @@ use Rattle.spec.specs.Script.{Instruction, wordFor}
 use Rattle.spec.specs.Facts.{Facts}
 use Rattle.spec.specs.Check.{Line, Lines, lineWords, wordsOf}
 use Rattle.spec.specs.Weaver.{line}
+use Rattle.spec.proofs.StoredLaws.{length-words}
 use Rattle.weaver.specs.Written.{storedLine, over, written}
 
 pub eight-set : (o : List ℕ) → 8 ≤ length o → (a b c d e f g h : ℕ)
@@ -39,6 +41,9 @@ length-over a o h = length-append a (drop (length a) o) ∙ ap (λ n. length a +
 -- the part from n on
 pub part-length : (n : ℕ) (o : List ℕ) → length (take (length o - n) (drop n o)) ≡ length o - n
 part-length n o = ap length (take-all (length o - n) (drop n o) (rw length-drop (omega arith))) ∙ length-drop n o
+
+pub part-of : (n : ℕ) (o1 o : List ℕ) → length o1 ≡ length o → length (take (length o1 - n) (drop n o1)) ≡ length o - n
+part-of n o1 o e = part-length n o1 ∙ ap (λ m. m - n) e
 
 -- a, then b into the part after it
 module _ (a b o : List ℕ) (n : ℕ) (en : n ≡ length a) (room : length a + length b ≤ length o) where
@@ -73,6 +78,17 @@ pub words-append : (ls ms : Lines) → wordsOf form32 (ls ++ ms) ≡ wordsOf for
 unfolding wordsOf
 words-append [] ms = refl
 words-append (x ∷ ls) ms = ap (λ ws. lineWords form32 x ++ ws) (words-append ls ms) ∙ sym (append-assoc (lineWords form32 x) (wordsOf form32 ls) (wordsOf form32 ms))
+
+-- lines, then more lines into the part after them
+pub written-then : (ls ms : Lines) (a b n : ℕ) (o o1 p : List ℕ) → length ls ≡ a → length ms ≡ b → n ≡ 8 * a → 8 * (a + b) ≤ length o
+    → o1 ≡ written ls o → p ≡ written ms (take (length o1 - n) (drop n o1)) → take n o1 ++ (p ++ drop (length o1 - n) (drop n o1)) ≡ written (ls ++ ms) o
+written-then ls ms a b n o o1 p la lb en room e1 e2 =
+    let wa = length-words form32 ls in
+    let wb = length-words form32 ms in
+    let en′ : n ≡ length (wordsOf form32 ls) = omega arith in
+    let room′ : length (wordsOf form32 ls) + length (wordsOf form32 ms) ≤ length o = omega arith in
+    over-then (wordsOf form32 ls) (wordsOf form32 ms) o n en′ room′ (wordsOf form32 ls) (wordsOf form32 ms) o1 p refl e1 refl e2
+    ∙ ap (λ ws. over ws o) (sym (words-append ls ms))
 
 pub stored-line : (w : ℕ) (i : Instruction) (F : Facts) → w ≡ wordFor i → storedLine w F ≡ wordsOf form32 (line i F ∷ [])
 unfolding storedLine wordsOf lineWords

@@ -31,11 +31,13 @@ Simply x k onTrue onFalse F before after =
     (t : Table) (decided : ℕ → Decision) (place : ℕ) → after ≡ written (decideFrom t decided x k place onTrue onFalse F) before
 
 module _ (x : Node) (w k onTrue onFalse : ℕ) (F : Facts) (before after : List ℕ) where
-  pub by-leaf : (q : Condition) → ((t : Table) (d : ℕ → Decision) (place : ℕ) → decideFrom t d x k place onTrue onFalse F ≡ leaf q k place onTrue onFalse F)
+  pub by-leaf : (q : Condition) (y : Node) → x ≡ y
+      → ((t : Table) (d : ℕ → Decision) (place : ℕ) → decideFrom t d y k place onTrue onFalse F ≡ leaf q k place onTrue onFalse F)
       → w ≡ wordFor (branch q onTrue)
       → after ≡ over (storedLine w F ++ storedLine (wordFor (goto onFalse)) (F ∪ one (valueIs false) k)) before → Simply x k onTrue onFalse F before after
-  by-leaf q is ew e t d place =
+  by-leaf q y ex is ew e t d place =
       e ∙ ap (λ ws. over ws before) (leaf-words w k place onTrue onFalse q F ew ∙ ap (wordsOf form32) (sym (is t d place)))
+      ∙ ap (λ z. written (decideFrom t d z k place onTrue onFalse F) before) (sym ex)
 
   pub by-goto : x ≡ falseNode → w ≡ wordFor (goto onFalse) → after ≡ over (storedLine w F) before → Simply x k onTrue onFalse F before after
   unfolding decideFrom

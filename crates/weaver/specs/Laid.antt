@@ -17,9 +17,14 @@ abbrev pub Sized : (rule sizes : List ℕ) → Type 0
 Sized rule sizes =
     (checkRule form32 rule ≡ passed tt) × ((k : ℕ) → k < length rule → getD sizes k 0 ≡ decideSize (tableIn rule) k)
 
--- n lines from `place` on are lines of a script, and there is an output for them
-abbrev pub Room : (place n : ℕ) (out : List ℕ) → Type 0
-Room place n out = (place + n ≤ mostLines) × (lineLength * n ≤ length out)
+-- node k can be decided at `place` towards two lines, and the output has space for its code
+pub record Deciding (rule sizes : List ℕ) (k place onTrue onFalse : ℕ) (out : List ℕ) : Type 0 where
+  pub sized : Sized rule sizes
+  pub isNode : k < length rule
+  pub trueLine : onTrue < mostLines
+  pub falseLine : onFalse < mostLines
+  pub inScript : place + decideSize (tableIn rule) k ≤ mostLines
+  pub inOutput : lineLength * decideSize (tableIn rule) k ≤ length out
 
 -- how far two starts in the table of starts are apart
 abbrev pub interval : ℕ

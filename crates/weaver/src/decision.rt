@@ -1,8 +1,8 @@
 // Deciding a node towards two places.
-use checker::facts::Facts;
-use checker::facts::learn_value;
 use crate::line::code;
 use crate::line::put_line;
+use checker::facts::Facts;
+use checker::facts::learn_value;
 ghost use mathlib.Core.Path.{_≡_};
 ghost use mathlib.Core.Bool.{false};
 ghost use mathlib.Core.List.{_++_};
@@ -12,11 +12,11 @@ ghost use Rattle.spec.specs.Rule.{field, nodeFields, nodeOf, Table};
 ghost use Rattle.spec.specs.Script.{goto, wordFor};
 ghost use Rattle.spec.specs.Facts.{valueIs, _∪_, one};
 ghost use Rattle.spec.specs.Check.{lineLength};
-ghost use Rattle.spec.specs.Weaver.{sizeFrom, decideSize, Decision, decideFrom, decide};
+ghost use Rattle.spec.specs.Weaver.{sizeFrom, Decision, decideFrom, decide};
 ghost use Rattle.sets.specs.Sets.{capacity};
 ghost use Rattle.checker.specs.FactSets.{factsOf};
 ghost use Rattle.weaver.specs.Written.{storedLine, over, written};
-ghost use Rattle.weaver.specs.Laid.{tableIn, Sized, Room};
+ghost use Rattle.weaver.specs.Laid.{tableIn, Deciding};
 
 // A leaf, node k: its branch to the true place, then go to the false place, which has F of the leaf.
 fn put_leaf(branch: u32, k: usize, on_false: usize, x: Facts, out: &mut [u32])
@@ -24,7 +24,11 @@ fn put_leaf(branch: u32, k: usize, on_false: usize, x: Facts, out: &mut [u32])
     ensures { λ r. ⌜ now (out .exit) ≡ over (storedLine branch (factsOf x) ++ storedLine (wordFor (goto «on_false»)) (factsOf x ∪ one (valueIs false) k)) (now (out .entry)) ⌝ }
 {
     put_line(branch, x, out);
-    put_line(code(7, 0, 0, on_false), learn_value(x, k, false, true), &mut out[8..]);
+    put_line(
+        code(7, 0, 0, on_false),
+        learn_value(x, k, false, true),
+        &mut out[8..],
+    );
 }
 
 // The code for a node other than implies, whose word this is.
@@ -55,7 +59,7 @@ pub fn put_decision(
     x: Facts,
     out: &mut [u32],
 )
-    requires { ⌜ Sized (now rule) (now sizes) × (k < length (now rule)) × («on_true» < 1024) × («on_false» < 1024) × Room place (decideSize (tableIn (now rule)) k) (now out) ⌝ }
+    requires { ⌜ Deciding (now rule) (now sizes) k place «on_true» «on_false» (now out) ⌝ }
     ensures { λ r. ⌜ now (out .exit) ≡ written (decide (tableIn (now (rule .entry))) k place «on_true» «on_false» (factsOf x)) (now (out .entry)) ⌝ }
 {
     let word = rule[k];
@@ -65,7 +69,16 @@ pub fn put_decision(
         let n = sizes[left] as usize;
         put_decision(rule, sizes, left, place, place + n, on_true, x, out);
         let y = learn_value(x, left, true, false);
-        put_decision(rule, sizes, right, place + n, on_true, on_false, y, &mut out[8 * n..]);
+        put_decision(
+            rule,
+            sizes,
+            right,
+            place + n,
+            on_true,
+            on_false,
+            y,
+            &mut out[8 * n..],
+        );
     } else {
         put_simple(word, k, on_true, on_false, x, out);
     }

@@ -19,7 +19,7 @@ code-requires c κs = search needs
 
 -- src/decision.rt:39:14
 put-leaf-requires : tie.Need-put-leaf-requires
-put-leaf-requires c κs = (c .before .before .before .before .pre .1, (c .before .before .before .before .pre .3, room-of _ _ (c .before .before .before .before .args .k) (c .before .before .before .before .args .out .now) (kind-1 _ (c .before .before .match .keys1)) (c .before .before .before .before .pre .4)))
+put-leaf-requires c κs = (c .before .before .before .before .pre .1, c .before .before .before .before .pre .3, room-of _ _ (c .before .before .before .before .args .k) (c .before .before .before .before .args .out .now) (kind-1 _ (c .before .before .match .keys1)) (c .before .before .before .before .pre .4))
 
 -- src/decision.rt:40:23
 code-requires-2 : tie.Need-code-requires-2
@@ -27,7 +27,7 @@ code-requires-2 c κs = search needs
 
 -- src/decision.rt:40:14
 put-leaf-requires-2 : tie.Need-put-leaf-requires-2
-put-leaf-requires-2 c κs = (c .before .before .before .before .pre .1, (c .before .before .before .before .pre .3, room-of _ _ (c .before .before .before .before .args .k) (c .before .before .before .before .args .out .now) (kind-2 _ (c .before .before .match .keys2)) (c .before .before .before .before .pre .4)))
+put-leaf-requires-2 c κs = (c .before .before .before .before .pre .1, c .before .before .before .before .pre .3, room-of _ _ (c .before .before .before .before .args .k) (c .before .before .before .before .args .out .now) (kind-2 _ (c .before .before .match .keys2)) (c .before .before .before .before .pre .4))
 
 -- src/decision.rt:41:35
 cast-code : tie.Need-cast-code
@@ -39,7 +39,7 @@ code-requires-3 c κs = search needs
 
 -- src/decision.rt:41:14
 put-leaf-requires-3 : tie.Need-put-leaf-requires-3
-put-leaf-requires-3 c κs = (c .before .before .before .before .pre .1, (c .before .before .before .before .pre .3, room-of _ _ (c .before .before .before .before .args .k) (c .before .before .before .before .args .out .now) (kind-4 _ (c .before .before .match .keys3)) (c .before .before .before .before .pre .4)))
+put-leaf-requires-3 c κs = (c .before .before .before .before .pre .1, c .before .before .before .before .pre .3, room-of _ _ (c .before .before .before .before .args .k) (c .before .before .before .before .args .out .now) (kind-4 _ (c .before .before .match .keys3)) (c .before .before .before .before .pre .4))
 
 -- src/decision.rt:42:35
 cast-code-2 : tie.Need-cast-code-2
@@ -51,7 +51,7 @@ code-requires-4 c κs = search needs
 
 -- src/decision.rt:42:14
 put-leaf-requires-4 : tie.Need-put-leaf-requires-4
-put-leaf-requires-4 c κs = (c .before .before .before .before .pre .1, (c .before .before .before .before .pre .3, room-of _ _ (c .before .before .before .before .args .k) (c .before .before .before .before .args .out .now) (kind-5 _ (c .before .before .match .keys4)) (c .before .before .before .before .pre .4)))
+put-leaf-requires-4 c κs = (c .before .before .before .before .pre .1, c .before .before .before .before .pre .3, room-of _ _ (c .before .before .before .before .args .k) (c .before .before .before .before .args .out .now) (kind-5 _ (c .before .before .match .keys4)) (c .before .before .before .before .pre .4))
 
 -- src/decision.rt:43:23
 code-requires-5 : tie.Need-code-requires-5
@@ -68,7 +68,7 @@ same-length c = search needs
 -- src/decision.rt:31:1
 returns : tie.Need-returns
 unfolding decideFrom wordFor fieldsFor
-returns c = by-leaf _ _ _ _ _ _ _ _ (ifTest (equal _ _)) (λ t d place. rw (kind-1 _ (c .before .before .before .before .before .match .keys1)) refl) (c .before .before .before .before .code .ensures) (c .before .before .put-leaf .ensures)
+returns c = by-leaf _ _ _ _ _ _ _ _ (ifTest (equal _ _)) _ (kind-1 _ (c .before .before .before .before .before .match .keys1)) (λ t d place. refl) (c .before .before .before .before .code .ensures) (c .before .before .put-leaf .ensures)
 
 -- src/decision.rt:31:1
 same-length-2 : tie.Need-same-length-2
@@ -77,7 +77,7 @@ same-length-2 c = search needs
 -- src/decision.rt:31:1
 returns-2 : tie.Need-returns-2
 unfolding decideFrom wordFor fieldsFor
-returns-2 c = by-leaf _ _ _ _ _ _ _ _ (ifTest (below _ _)) (λ t d place. rw (kind-2 _ (c .before .before .before .before .before .match .keys2)) refl) (c .before .before .before .before .code2 .ensures) (c .before .before .put-leaf2 .ensures)
+returns-2 c = by-leaf _ _ _ _ _ _ _ _ (ifTest (below _ _)) _ (kind-2 _ (c .before .before .before .before .before .match .keys2)) (λ t d place. refl) (c .before .before .before .before .code2 .ensures) (c .before .before .put-leaf2 .ensures)
 
 -- src/decision.rt:31:1
 same-length-3 : tie.Need-same-length-3
@@ -86,7 +86,7 @@ same-length-3 c = search needs
 -- src/decision.rt:31:1
 returns-3 : tie.Need-returns-3
 unfolding decideFrom wordFor fieldsFor
-returns-3 c = by-leaf _ _ _ _ _ _ _ _ (ifWork _) (λ t d place. rw (kind-4 _ (c .before .before .before .before .before .match .keys3)) refl) (c .before .before .before .before .code3 .ensures) (c .before .before .put-leaf3 .ensures)
+returns-3 c = by-leaf _ _ _ _ _ _ _ _ (ifWork _) _ (kind-4 _ (c .before .before .before .before .before .match .keys3)) (λ t d place. refl) (c .before .before .before .before .code3 .ensures) (c .before .before .put-leaf3 .ensures)
 
 -- src/decision.rt:31:1
 same-length-4 : tie.Need-same-length-4
@@ -95,7 +95,7 @@ same-length-4 c = search needs
 -- src/decision.rt:31:1
 returns-4 : tie.Need-returns-4
 unfolding decideFrom wordFor fieldsFor
-returns-4 c = by-leaf _ _ _ _ _ _ _ _ (ifKept _) (λ t d place. rw (kind-5 _ (c .before .before .before .before .before .match .keys4)) refl) (c .before .before .before .before .code4 .ensures) (c .before .before .put-leaf4 .ensures)
+returns-4 c = by-leaf _ _ _ _ _ _ _ _ (ifKept _) _ (kind-5 _ (c .before .before .before .before .before .match .keys4)) (λ t d place. refl) (c .before .before .before .before .code4 .ensures) (c .before .before .put-leaf4 .ensures)
 
 -- src/decision.rt:31:1
 same-length-5 : tie.Need-same-length-5

@@ -18,8 +18,7 @@ with-requires c κs = search needs
 -- src/line.rt:23:1
 returns : tie.Need-returns
 unfolding wordNumber
-returns c = let s = λ g d. one-other (factsOf (c .before .args .x)) workIsNext (c .before .args .k) g d in
-    facts-ext _ _ (s (valueIs true) refl) (s (valueIs false) refl) (s (priorIs true) refl) (s (priorIs false) refl) (s keptIsPrior refl) (one-own (factsOf (c .before .args .x)) workIsNext (c .before .args .k) _ (c .before .pre) (c .with .ensures)) (s workIsPrior refl)
+returns c = facts-ext _ _ (one-other (factsOf (c .before .args .x)) workIsNext (c .before .args .k) (valueIs true) refl) (one-other (factsOf (c .before .args .x)) workIsNext (c .before .args .k) (valueIs false) refl) (one-other (factsOf (c .before .args .x)) workIsNext (c .before .args .k) (priorIs true) refl) (one-other (factsOf (c .before .args .x)) workIsNext (c .before .args .k) (priorIs false) refl) (one-other (factsOf (c .before .args .x)) workIsNext (c .before .args .k) keptIsPrior refl) (one-own (factsOf (c .before .args .x)) workIsNext (c .before .args .k) _ (c .before .pre) (c .with .ensures)) (one-other (factsOf (c .before .args .x)) workIsNext (c .before .args .k) workIsPrior refl)
 
 pub with-work-spec : {M : Type 1} → statement M
 with-work-spec = tie.close (tie.spec with-requires returns)
