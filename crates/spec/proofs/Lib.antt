@@ -26,5 +26,7 @@ pub mod WovenLaws
 pub mod SmallLaws
 pub mod HandedLaws
 pub mod QuietLaws
+pub mod BlockRunLaws
+pub mod WalkLaws
 pub mod Compute
 pub mod Cases
