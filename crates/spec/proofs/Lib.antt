@@ -28,5 +28,6 @@ pub mod HandedLaws
 pub mod QuietLaws
 pub mod BlockRunLaws
 pub mod WalkLaws
+pub mod SimulationLaws
 pub mod Compute
 pub mod Cases
