@@ -29,5 +29,7 @@ pub mod QuietLaws
 pub mod BlockRunLaws
 pub mod WalkLaws
 pub mod SimulationLaws
+pub mod ReachLaws
+pub mod Demand
 pub mod Compute
 pub mod Cases
