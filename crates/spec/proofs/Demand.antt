@@ -21,7 +21,7 @@ use Rattle.spec.proofs.SumLaws.{block-lines}
 use Rattle.spec.proofs.RunLaws.{after-is, after-safe}
 use Rattle.spec.proofs.HandedLaws.{WeavingOut, weaving-out, read-back, handed-accepted}
 use Rattle.spec.proofs.QuietLaws.{Scene, Spot, mk, spot}
-use Rattle.spec.proofs.SimulationLaws.{plainOf, same, Match}
+use Rattle.spec.proofs.MatchLaws.{plainOf, same, Match}
 use Rattle.spec.proofs.ReachLaws.{reaches, follows}
 
 -- ---- a fresh start

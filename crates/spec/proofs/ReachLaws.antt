@@ -22,7 +22,8 @@ use Rattle.spec.proofs.RunLaws.{steps-add}
 use Rattle.spec.proofs.WovenLaws.{isBare}
 use Rattle.spec.proofs.QuietLaws.{Scene, Spot, mk}
 use Rattle.spec.proofs.WalkLaws.{size, last, walk-end, walk-all, stays}
-use Rattle.spec.proofs.SimulationLaws.{plainOf, same, Match, sim-step}
+use Rattle.spec.proofs.MatchLaws.{plainOf, same, Match}
+use Rattle.spec.proofs.SimulationLaws.{sim-step}
 
 module _ (t : Table) (ordered : InOrder t) (some-node : 0 < length t) (code : Code) (inputs : List ℕ) (space : ℕ)
     (bare : (l : ℕ) → isBare (instructionAt code l) ≡ true) where

@@ -1,0 +1,110 @@
+-- When the woven machine is where and as the plain machine is, and what can come of a plain step (`specs/Plain.antt`, `specs/Weaver.antt`).
+--     plainOf, same              the plain machine in a scene, seen in the woven machine
+--     Match                      the woven machine is where the plain machine's line now starts, and its kept bits are the priors
+--     Either, Moved, Stuck, Outcome   it moves on, each machine met seen as the plain machine before or after; or it stays for good
+--     one-move, stuck-here       one woven step for one plain step; none
+--     steps-to, stays-at         what the line that it is at does
+-- Assumes nothing.
+use mathlib.Core.Path.{_≡_, refl, sym, subst, ap, _∙_}
+use mathlib.Core.Logic.{_⊎_, inl, inr, _≢_}
+use mathlib.Core.Bool.{Bool, true, false, cond, not}
+use mathlib.Core.Option.{none, some}
+use mathlib.Core.List.{List, [], _∷_, _++_}
+use Prim.Native.Nat.{ℕ, zero, suc, _+_, _-_, _*_, _≤_, _<_}
+use native.Mathlib.Omega.{arith}
+use lib.ListN.{length, set, length-set, List·getD-eq-default}
+use lib.Dec.{ltb}
+use borrow.Author.Tests.{ltb-false}
+use Rattle.spec.specs.Logic.{registerCount, passes}
+use Rattle.spec.specs.Rule.{Table, nodeAt, lastNode, isPast, withPresent, valueNow, prior, nextPrior}
+use Rattle.spec.specs.Judging.{states}
+use Rattle.spec.specs.Script.{Source, Condition, ifTest, ifKept, ifWork, Instruction, halt, write, branch, goto, present, setWork, keep, Code, instructionAt, isPresent}
+use Rattle.spec.specs.Check.{Line, Lines, lineAt, codeOf}
+use Rattle.spec.specs.Machine.{Machine, trace, written, readAfter, lacksInput, lacksSpace, withState, meets, move, Stop, halted, dry, full, stops, step}
+use Rattle.spec.specs.Plain.{Plain, plainWrite, mayPresent, plainPresent, plainStep}
+use Rattle.spec.specs.Weaver.{bareFacts, line, keeps, blockSize, presentAt, block, lineSize, startOf, retarget, weaveLine, weave}
+use Rattle.spec.specs.Promise.{SameAs}
+use Rattle.spec.proofs.BoolLaws.{clash, le-or-lt}
+use Rattle.spec.proofs.RuleLaws.{InOrder, past-in}
+use Rattle.spec.proofs.ValueLaws.{prior-moved, prior-after}
+use Rattle.spec.proofs.JudgingLaws.{length-states}
+use Rattle.spec.proofs.SoundLaws.{states-written, length-written}
+use Rattle.spec.proofs.WeaverLaws.{start-next, start-past, length-weave}
+use Rattle.spec.proofs.PlaceLaws.{noLine, past-end, instruction-at, Stands, stands-line}
+use Rattle.spec.proofs.BlockLaws.{presentLine, block-finish, stands-present}
+use Rattle.spec.proofs.WovenLaws.{isBare}
+use Rattle.spec.proofs.QuietLaws.{Bits, Scene, Spot, mk, spot, Leads, step-is}
+use Rattle.spec.proofs.BlockRunLaws.{block-run, keeps-run}
+use Rattle.spec.proofs.WalkLaws.{Walk, end, on, size, join, moves-on, leads-walk}
+
+-- the plain machine at bare line l in the scene z
+abbrev pub plainOf : ℕ → Scene → Plain
+plainOf l z = record { line = l; registers = z .registers; inputsRead = z .inputsRead; history = states (z .presentations) (z .history) }
+
+pub same : (l : ℕ) (z : Scene) (a : Spot) → SameAs (mk z a) (plainOf l z)
+same l z a = record { history = refl; registers = refl; inputsRead = refl }
+
+module _ (t : Table) (ordered : InOrder t) (some-node : 0 < length t) (code : Code) (inputs : List ℕ) (space : ℕ) where
+  abbrev ls : Lines
+  ls = weave t code
+
+  pub record Match (l : ℕ) (z : Scene) (a : Spot) : Type 0 where
+    pub place : a .line ≡ startOf t code l
+    pub bits : (k : ℕ) → isPast (nodeAt t k) ≡ true → a .kept k ≡ prior t (states (z .presentations) (z .history)) (z .registers) k
+    pub sixteen : length (z .registers) ≡ registerCount
+    pub lent : length (z .history) ≡ space
+
+  abbrev pub Either : ℕ → Scene → ℕ → Scene → Machine → Type 0
+  Either l z l′ z′ m = SameAs m (plainOf l z) ⊎ SameAs m (plainOf l′ z′)
+
+  pub record Moved (i : Instruction) (l : ℕ) (z : Scene) (a : Spot) : Type 0 where
+    pub l′ : ℕ
+    pub z′ : Scene
+    pub a′ : Spot
+    pub plain : plainStep t space inputs i (plainOf l z) ≡ plainOf l′ z′
+    pub walk : Walk (codeOf (weave t code)) inputs (Either l z l′ z′) (mk z a) (mk z′ a′)
+    pub some-step : 0 < size walk
+    pub match : Match l′ z′ a′
+
+  pub record Stuck (i : Instruction) (l : ℕ) (z : Scene) (a : Spot) : Type 0 where
+    pub a′ : Spot
+    pub plain : plainStep t space inputs i (plainOf l z) ≡ plainOf l z
+    pub walk : Walk (codeOf (weave t code)) inputs (λ m. SameAs m (plainOf l z)) (mk z a) (mk z a′)
+    pub stays : step (codeOf (weave t code)) inputs (mk z a′) ≡ mk z a′
+
+  abbrev pub Outcome : Instruction → ℕ → Scene → Spot → Type 0
+  Outcome i l z a = Moved i l z a ⊎ Stuck i l z a
+
+  -- one woven step for one plain step
+  pub one-move : (i : Instruction) (l : ℕ) (z : Scene) (a : Spot) (l′ : ℕ) (z′ : Scene) (a′ : Spot)
+      → plainStep t space inputs i (plainOf l z) ≡ plainOf l′ z′ → step (codeOf ls) inputs (mk z a) ≡ mk z′ a′ → Match l′ z′ a′ → Outcome i l z a
+  unfolding size
+  one-move i l z a l′ z′ a′ e n m = inl (record {
+    l′ = l′;
+    z′ = z′;
+    a′ = a′;
+    plain = e;
+    walk = on (inl (same l z a)) (subst (λ x. Walk (codeOf ls) inputs (Either l z l′ z′) x (mk z′ a′)) (sym n) (end (inr (same l′ z′ a′))));
+    some-step = omega arith;
+    match = m;
+  })
+
+  pub stuck-here : (i : Instruction) (l : ℕ) (z : Scene) (a : Spot) → plainStep t space inputs i (plainOf l z) ≡ plainOf l z
+      → step (codeOf ls) inputs (mk z a) ≡ mk z a → Outcome i l z a
+  stuck-here i l z a e n = inr (record { a′ = a; plain = e; walk = end (same l z a); stays = n })
+
+  module _ (l : ℕ) (z : Scene) (a : Spot) (m : Match l z a) where
+    abbrev p : ℕ
+    p = startOf t code l
+
+    -- the woven line's instruction, and what it does where nothing stops it
+    here-is : (x : Line) → lineAt ls p ≡ x → instructionAt (codeOf ls) (a .line) ≡ x .instruction
+    here-is x e = rw (m .place) (instruction-at ls p x e)
+
+    pub steps-to : (x : Line) (z′ : Scene) (a′ : Spot) → lineAt ls p ≡ x → stops inputs (x .instruction) (mk z a) ≡ none
+        → move inputs (x .instruction) (mk z a) ≡ mk z′ a′ → step (codeOf ls) inputs (mk z a) ≡ mk z′ a′
+    steps-to x z′ a′ e s d = step-is (codeOf ls) inputs (mk z a) (x .instruction) (here-is x e) s ∙ d
+
+    pub stays-at : (x : Line) (s : Stop) → lineAt ls p ≡ x → stops inputs (x .instruction) (mk z a) ≡ some s → step (codeOf ls) inputs (mk z a) ≡ mk z a
+    unfolding step
+    stays-at x s e d = rw (here-is x e, d)
