@@ -5,31 +5,27 @@
 --     block-entry              a block starts with M at most
 --     block-fine               it is fine if the line after it notes M at most
 -- Assumes nothing.
-use mathlib.Core.Path.{_≡_, refl, sym, subst, ap, _∙_}
-use mathlib.Core.Logic.{_⊎_, inl, inr}
-use mathlib.Core.Bool.{Bool, true, false, cond, _&&_}
-use mathlib.Core.List.{List, [], _∷_, _++_}
-use Prim.Native.Nat.{ℕ, zero, suc, _+_, _-_, _≤_, _<_}
+use mathlib.Core.Path.{_≡_, refl, sym, subst}
+use mathlib.Core.Bool.{true}
+use mathlib.Core.List.{_∷_, _++_}
+use Prim.Native.Nat.{ℕ, suc, _+_, _<_}
 use native.Mathlib.Nat.{le-refl}
 use native.Mathlib.Omega.{arith}
 use lib.ListN.{length, length-append}
-use lib.Dec.{ltb}
-use borrow.Author.Tests.{lt-ltb, ltb-true, ne-eqb}
-use Rattle.spec.specs.Rule.{Table, nodeAt, lastNode, isPast, nextOf}
-use Rattle.spec.specs.Script.{present, keep, namesAllowed}
-use Rattle.spec.specs.Facts.{valueIs, priorIs, keptIsPrior, workIsNext, workIsPrior, wordNumber, belongs, Facts, _∪_, _∖_, only, one, provided, close, pass}
-use Rattle.spec.specs.Check.{Line, Lines, lineAt, presentKnown}
-use Rattle.spec.specs.Weaver.{bareFacts, doneFacts, keepFacts, line, decideSize, decide, updatesSize, updates, keeps, blockSize, decisionAt, presentAt, block}
-use Rattle.spec.proofs.BoolLaws.{clash, and-both, both-and, decided, le-or-lt}
-use Rattle.spec.proofs.RuleLaws.{InOrder, past-in}
-use Rattle.spec.proofs.FactLaws.{_⊑_, ⊑-trans, in-left, in-right, union-least, minus-in, only-has, only-in, one-has, provided-in}
+use Rattle.spec.specs.Rule.{Table, lastNode}
+use Rattle.spec.specs.Script.{present, namesAllowed}
+use Rattle.spec.specs.Facts.{valueIs, Facts, _∪_, one}
+use Rattle.spec.specs.Check.{Line, Lines, presentKnown}
+use Rattle.spec.specs.Weaver.{bareFacts, doneFacts, line, decide, updates, keeps, blockSize, decisionAt, presentAt, block}
+use Rattle.spec.proofs.RuleLaws.{InOrder}
+use Rattle.spec.proofs.FactLaws.{⊑-trans}
 use Rattle.spec.proofs.ClosingLaws.{extends}
-use Rattle.spec.proofs.WeaverLaws.{length-decide, length-updates, pastsBelow, pasts-count, length-keeps}
+use Rattle.spec.proofs.WeaverLaws.{length-decide, length-updates, pastsBelow, pasts-count}
 use Rattle.spec.proofs.PlaceLaws.{Stands, stands-left, stands-right}
 use Rattle.spec.proofs.FineLaws.{AllFine, fine-join, fine-next, noted, noted-as}
 use Rattle.spec.proofs.DecisionLaws.{has-one, F-in₂, value-belongs, entry, decide-fine}
 use Rattle.spec.proofs.SettingLaws.{bare-in, done-ready, done-belongs}
-use Rattle.spec.proofs.UpdateLaws.{AtMost, at-most, updates-start, updates-fine}
+use Rattle.spec.proofs.UpdateLaws.{AtMost, updates-start, updates-fine}
 use Rattle.spec.proofs.KeepLaws.{present-passes, keeps-start, keeps-fine}
 
 -- ---- a block's parts

@@ -5,22 +5,21 @@
 --     entry                            the code begins with the facts that it starts from
 --     decide-fine                      it is fine if its two places note no more than the node's value tells
 -- Assumes nothing.
-use mathlib.Core.Path.{_≡_, refl, sym, subst, ap, _∙_}
-use mathlib.Core.Bool.{Bool, true, false, _&&_}
-use mathlib.Core.List.{List, [], _∷_, _++_}
+use mathlib.Core.Path.{_≡_, refl, sym, subst, ap}
+use mathlib.Core.Bool.{Bool, true, false}
 use Prim.Native.Nat.{ℕ, suc, _+_, _≤_, _<_}
 use native.Mathlib.Nat.{le-refl}
 use native.Mathlib.Omega.{arith}
 use lib.ListN.{length}
-use lib.Dec.{eqb, ltb}
+use lib.Dec.{ltb}
 use borrow.Author.Tests.{eq-eqb, lt-ltb}
 use Rattle.spec.specs.Logic.{Test, equal, below}
 use Rattle.spec.specs.Questions.{all}
 use Rattle.spec.specs.Rule.{Node, falseNode, testNode, impliesNode, sinceNode, weakPreviousNode, Table, nodeAt, isPast, operands, nextOf}
-use Rattle.spec.specs.Script.{Condition, ifTest, ifKept, ifWork, branch, goto, namesAllowed}
+use Rattle.spec.specs.Script.{Condition, ifTest, ifKept, ifWork, branch, namesAllowed}
 use Rattle.spec.specs.Facts.{Fact, valueIs, priorIs, keptIsPrior, workIsNext, workIsPrior, belongs, Facts, _∪_, only, one, provided, gains, close, sameTest, isTest, learned, pass}
-use Rattle.spec.specs.Check.{Line, Lines, lineAt}
-use Rattle.spec.specs.Weaver.{decideSize, line, leaf, decideFrom, decide}
+use Rattle.spec.specs.Check.{Lines}
+use Rattle.spec.specs.Weaver.{decideSize, leaf, decideFrom, decide}
 use Rattle.spec.proofs.BoolLaws.{both-and, or-left, or-right}
 use Rattle.spec.proofs.RuleLaws.{InOrder, both-lower, by-lower}
 use Rattle.spec.proofs.FactLaws.{_⊑_, ⊑-trans, in-left, in-right, union-least, only-has, one-has, one-in, provided-in}

@@ -10,8 +10,8 @@ use lib.ListN.{length}
 use Rattle.spec.specs.Rule.{Form, form32, Table, tableOf, prior}
 use Rattle.spec.specs.Judging.{states}
 use Rattle.spec.specs.Script.{Code, bareCode}
-use Rattle.spec.specs.Check.{codeOf, linesOf, wordsOf}
-use Rattle.spec.specs.Machine.{Machine, zeros, fresh, steps}
+use Rattle.spec.specs.Check.{codeOf}
+use Rattle.spec.specs.Machine.{zeros, fresh, steps}
 use Rattle.spec.specs.Plain.{plainStart, plainSteps}
 use Rattle.spec.specs.Weaver.{startOf, weave, woven}
 use Rattle.spec.specs.Promise.{Weavable, after, plainAfter, SameAs, Promise}

@@ -4,14 +4,13 @@
 --     notedAt, noted, noted-as                       what is noted at a place
 --     among-all, belong-all                          the tests of questions 8, 9 and 11 from the order of sets
 -- Assumes nothing.
-use mathlib.Core.Path.{_≡_, refl, sym, subst, ap, _∙_}
-use mathlib.Core.Bool.{Bool, true, false, _&&_}
-use mathlib.Core.Option.{Option, none, some}
-use mathlib.Core.List.{List, [], _∷_, _++_}
+use mathlib.Core.Path.{_≡_, refl, sym, subst}
+use mathlib.Core.Bool.{true, false}
+use mathlib.Core.Option.{none}
+use mathlib.Core.List.{[], _∷_, _++_}
 use Prim.Native.Nat.{ℕ, zero, suc, _+_, _<_}
 use native.Mathlib.Omega.{arith}
 use lib.ListN.{length}
-use lib.Dec.{ltb}
 use borrow.Author.Tests.{lt-ltb}
 use Rattle.spec.specs.Rule.{Form, Table}
 use Rattle.spec.specs.Script.{Condition, Instruction, halt, branch, goto, targetOf, goesOn, namesAllowed, followersExist}

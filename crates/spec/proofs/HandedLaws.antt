@@ -4,19 +4,19 @@
 --     handed-accepted             the woven script passes questions 1 to 11
 -- Assumes nothing.
 use mathlib.Core.Path.{_≡_, refl, sym, subst, ap, _∙_}
-use mathlib.Core.Logic.{_⊎_, inl, inr}
-use mathlib.Core.Bool.{Bool, true, _&&_}
+use mathlib.Core.Logic.{inl, inr}
+use mathlib.Core.Bool.{true, _&&_}
 use mathlib.Core.List.{List, [], _∷_}
-use Prim.Native.Nat.{ℕ, zero, suc, _+_, _*_, _/_, _%_, _≤_, _<_}
+use Prim.Native.Nat.{ℕ, zero, suc, _/_, _%_, _≤_, _<_}
 use native.Mathlib.Omega.{arith}
 use lib.ListN.{length, getD, length-map, List·getD-map, List·getD-eq-default}
-use lib.Dec.{eqb, leb}
+use lib.Dec.{eqb}
 use borrow.Author.Tests.{leb-true, le-leb, eqb-true, eq-eqb}
-use Rattle.spec.specs.Logic.{Test, equal, below}
-use Rattle.spec.specs.Questions.{passed, _then_}
+use Rattle.spec.specs.Logic.{Test}
+use Rattle.spec.specs.Questions.{passed}
 use Rattle.spec.specs.Rule.{NodeFields, Form, Node, falseNode, testNode, impliesNode, sinceNode, weakPreviousNode, byKind, nodeOf, Table, tableOf, nodeAt, checkRule}
 use Rattle.spec.specs.Script.{Instruction, halt, Code, instructionAt, fieldsOf, instructionOf, instructionRead, fieldsFor, wordFor, bareStored, bareCode, bareOpcode, annotatedOpcode, storedFit, namesAllowed, lineAllowed, followersExist, checkCode, checkBare}
-use Rattle.spec.specs.Check.{Line, Lines, lineAt, linesOf, wordsOf, annotatedStored, checkFacts, checkScript}
+use Rattle.spec.specs.Check.{Lines, lineAt, linesOf, wordsOf, annotatedStored, checkFacts, checkScript}
 use Rattle.spec.specs.Weaver.{weave, wovenCount, woven, question12, checkWeaving}
 use Rattle.spec.specs.Promise.{Accepted, Weavable}
 use Rattle.spec.proofs.BoolLaws.{and-both, both-and, le-or-lt}

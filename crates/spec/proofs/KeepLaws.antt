@@ -3,30 +3,28 @@
 --     keeps-start         the 12 lines begin with no more than that
 --     keeps-fine          they are fine if the line after them notes M at most
 -- Assumes nothing.
-use mathlib.Core.Path.{_≡_, refl, sym, subst, ap, _∙_}
-use mathlib.Core.Logic.{_⊎_, inl, inr}
+use mathlib.Core.Path.{_≡_, refl, subst}
+use mathlib.Core.Logic.{inl, inr}
 use mathlib.Core.Bool.{Bool, true, false, cond, _&&_}
-use mathlib.Core.List.{List, [], _∷_, _++_}
+use mathlib.Core.List.{[], _∷_}
 use Prim.Native.Nat.{ℕ, zero, suc, _+_, _-_, _≤_, _<_}
-use native.Mathlib.Nat.{le-refl}
 use native.Mathlib.Omega.{arith}
-use lib.ListN.{length, length-append}
+use lib.ListN.{length}
 use lib.Dec.{ltb}
 use borrow.Author.Tests.{lt-ltb, ltb-true, ne-eqb}
 use Rattle.spec.specs.Rule.{Table, nodeAt, lastNode, isPast, nextOf}
 use Rattle.spec.specs.Script.{present, keep, namesAllowed}
 use Rattle.spec.specs.Facts.{valueIs, priorIs, keptIsPrior, workIsNext, workIsPrior, wordNumber, belongs, Facts, _∪_, _∖_, only, one, provided, close, pass}
-use Rattle.spec.specs.Check.{Line, Lines, lineAt, presentKnown}
-use Rattle.spec.specs.Weaver.{bareFacts, doneFacts, keepFacts, line, decideSize, decide, updatesSize, updates, keeps, blockSize, decisionAt, presentAt, block}
+use Rattle.spec.specs.Check.{Lines, lineAt, presentKnown}
+use Rattle.spec.specs.Weaver.{bareFacts, doneFacts, keepFacts, line, keeps}
 use Rattle.spec.proofs.BoolLaws.{clash, and-both, both-and, decided, le-or-lt}
 use Rattle.spec.proofs.RuleLaws.{InOrder, past-in}
 use Rattle.spec.proofs.FactLaws.{_⊑_, ⊑-trans, in-left, in-right, union-least, minus-in, only-has, only-in, one-has, provided-in}
 use Rattle.spec.proofs.ClosingLaws.{extends}
-use Rattle.spec.proofs.WeaverLaws.{length-decide, length-updates, pastsBelow, pasts-count, length-keeps}
+use Rattle.spec.proofs.WeaverLaws.{pastsBelow, length-keeps}
 use Rattle.spec.proofs.PlaceLaws.{Stands, stands-left, stands-right}
-use Rattle.spec.proofs.FineLaws.{AllFine, fine-join, fine-next, noted, noted-as}
-use Rattle.spec.proofs.DecisionLaws.{has-one, F-in₂, value-belongs, entry, decide-fine}
-use Rattle.spec.proofs.SettingLaws.{bare-in, done-ready, done-belongs}
+use Rattle.spec.proofs.FineLaws.{AllFine, fine-join, fine-next, noted}
+use Rattle.spec.proofs.SettingLaws.{bare-in, done-ready}
 use Rattle.spec.proofs.UpdateLaws.{AtMost, at-most}
 
 -- ---- the facts of the 12 lines

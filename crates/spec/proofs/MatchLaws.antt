@@ -5,37 +5,27 @@
 --     one-move, stuck-here       one woven step for one plain step; none
 --     steps-to, stays-at         what the line that it is at does
 -- Assumes nothing.
-use mathlib.Core.Path.{_≡_, refl, sym, subst, ap, _∙_}
-use mathlib.Core.Logic.{_⊎_, inl, inr, _≢_}
-use mathlib.Core.Bool.{Bool, true, false, cond, not}
+use mathlib.Core.Path.{_≡_, refl, sym, subst, _∙_}
+use mathlib.Core.Logic.{_⊎_, inl, inr}
+use mathlib.Core.Bool.{true}
 use mathlib.Core.Option.{none, some}
-use mathlib.Core.List.{List, [], _∷_, _++_}
-use Prim.Native.Nat.{ℕ, zero, suc, _+_, _-_, _*_, _≤_, _<_}
+use mathlib.Core.List.{List}
+use Prim.Native.Nat.{ℕ, _<_}
 use native.Mathlib.Omega.{arith}
-use lib.ListN.{length, set, length-set, List·getD-eq-default}
-use lib.Dec.{ltb}
-use borrow.Author.Tests.{ltb-false}
-use Rattle.spec.specs.Logic.{registerCount, passes}
-use Rattle.spec.specs.Rule.{Table, nodeAt, lastNode, isPast, withPresent, valueNow, prior, nextPrior}
+use lib.ListN.{length}
+use Rattle.spec.specs.Logic.{registerCount}
+use Rattle.spec.specs.Rule.{Table, nodeAt, isPast, prior}
 use Rattle.spec.specs.Judging.{states}
-use Rattle.spec.specs.Script.{Source, Condition, ifTest, ifKept, ifWork, Instruction, halt, write, branch, goto, present, setWork, keep, Code, instructionAt, isPresent}
+use Rattle.spec.specs.Script.{Instruction, Code, instructionAt}
 use Rattle.spec.specs.Check.{Line, Lines, lineAt, codeOf}
-use Rattle.spec.specs.Machine.{Machine, trace, written, readAfter, lacksInput, lacksSpace, withState, meets, move, Stop, halted, dry, full, stops, step}
-use Rattle.spec.specs.Plain.{Plain, plainWrite, mayPresent, plainPresent, plainStep}
-use Rattle.spec.specs.Weaver.{bareFacts, line, keeps, blockSize, presentAt, block, lineSize, startOf, retarget, weaveLine, weave}
+use Rattle.spec.specs.Machine.{Machine, move, Stop, stops, step}
+use Rattle.spec.specs.Plain.{Plain, plainStep}
+use Rattle.spec.specs.Weaver.{line, startOf, weave}
 use Rattle.spec.specs.Promise.{SameAs}
-use Rattle.spec.proofs.BoolLaws.{clash, le-or-lt}
-use Rattle.spec.proofs.RuleLaws.{InOrder, past-in}
-use Rattle.spec.proofs.ValueLaws.{prior-moved, prior-after}
-use Rattle.spec.proofs.JudgingLaws.{length-states}
-use Rattle.spec.proofs.SoundLaws.{states-written, length-written}
-use Rattle.spec.proofs.WeaverLaws.{start-next, start-past, length-weave}
-use Rattle.spec.proofs.PlaceLaws.{noLine, past-end, instruction-at, Stands, stands-line}
-use Rattle.spec.proofs.BlockLaws.{presentLine, block-finish, stands-present}
-use Rattle.spec.proofs.WovenLaws.{isBare}
-use Rattle.spec.proofs.QuietLaws.{Bits, Scene, Spot, mk, spot, Leads, step-is}
-use Rattle.spec.proofs.BlockRunLaws.{block-run, keeps-run}
-use Rattle.spec.proofs.WalkLaws.{Walk, end, on, size, join, moves-on, leads-walk}
+use Rattle.spec.proofs.RuleLaws.{InOrder}
+use Rattle.spec.proofs.PlaceLaws.{instruction-at}
+use Rattle.spec.proofs.QuietLaws.{Scene, Spot, mk, step-is}
+use Rattle.spec.proofs.WalkLaws.{Walk, end, on, size}
 
 -- the plain machine at bare line l in the scene z
 abbrev pub plainOf : ℕ → Scene → Plain

@@ -9,17 +9,17 @@
 use mathlib.Core.Path.{_≡_, refl, sym, subst, ap, _∙_}
 use mathlib.Core.Bool.{Bool, true, false, cond, not, _&&_, _||_}
 use mathlib.Core.Option.{none}
-use mathlib.Core.List.{List, [], _∷_, _++_}
-use Prim.Native.Nat.{ℕ, suc, _+_, _≤_, _<_}
+use mathlib.Core.List.{List, _∷_, _++_}
+use Prim.Native.Nat.{ℕ, suc, _+_, _<_}
 use native.Mathlib.Nat.{le-refl}
 use native.Mathlib.Omega.{arith}
 use lib.ListN.{length, length-append}
 use lib.Dec.{ltb}
-use Rattle.spec.specs.Logic.{State, Trace, passes}
+use Rattle.spec.specs.Logic.{State, Trace}
 use Rattle.spec.specs.Questions.{all}
 use Rattle.spec.specs.Rule.{Node, falseNode, testNode, impliesNode, sinceNode, weakPreviousNode, Table, nodeAt, isPast, operands, valueNow, priorFrom, prior, nextFrom, nextPrior}
 use Rattle.spec.specs.Judging.{states}
-use Rattle.spec.specs.Script.{Condition, ifTest, ifKept, ifWork, Instruction, branch, goto, setWork, Code, instructionAt}
+use Rattle.spec.specs.Script.{Condition, ifTest, ifKept, ifWork, Instruction, branch, goto, Code, instructionAt}
 use Rattle.spec.specs.Facts.{valueIs, priorIs, Facts, _∪_, one}
 use Rattle.spec.specs.Check.{Line, Lines, lineAt, codeOf}
 use Rattle.spec.specs.Machine.{Machine, machine, setBit, meets, move, stops, step}

@@ -6,23 +6,22 @@
 --     running-after                   a run that is not refused ends as the machine is after its steps
 --     after-safe, running-safe        the rule is true at every presentation, after n steps and after a run
 -- Assumes nothing.
-use mathlib.Core.Path.{_≡_, refl, sym, subst, subst₂, ap, _∙_}
-use mathlib.Core.Bool.{Bool, true, cond, _&&_}
+use mathlib.Core.Path.{_≡_, refl, sym, subst, ap, _∙_}
+use mathlib.Core.Bool.{true}
 use mathlib.Core.Option.{Option, none, some}
 use mathlib.Core.List.{List}
 use Prim.Native.Nat.{ℕ, zero, suc, _+_, _/_, _≤_, _<_}
 use native.Mathlib.Nat.{zero-add}
 use native.Mathlib.Omega.{arith}
-use lib.ListN.{length, take}
+use lib.ListN.{length}
 use lib.Seq.{take-all}
-use lib.Dec.{ltb}
 use borrow.Author.Tests.{lt-ltb}
 use Rattle.spec.specs.Logic.{Satisfies}
-use Rattle.spec.specs.Questions.{passed, _then_}
+use Rattle.spec.specs.Questions.{passed}
 use Rattle.spec.specs.Rule.{Form, tableOf, ruleOf, checkRule}
 use Rattle.spec.specs.Judging.{states, question15}
-use Rattle.spec.specs.Script.{Code, instructionAt, annotatedOpcode, lineAllowed, checkCode}
-use Rattle.spec.specs.Check.{codeOf, linesOf, annotatedStored, checkFacts, checkScript}
+use Rattle.spec.specs.Script.{Code, instructionAt, annotatedOpcode, checkCode}
+use Rattle.spec.specs.Check.{codeOf, linesOf, annotatedStored, checkScript}
 use Rattle.spec.specs.Machine.{Machine, trace, fresh, Stop, stops, step, steps, Ended, endedAs, run, tableWithin, freshOf, canRun, stepOf, running}
 use Rattle.spec.specs.Promise.{Accepted, after}
 use Rattle.spec.proofs.BoolLaws.{both-and}
@@ -136,8 +135,7 @@ module _ (form : Form) (rule script inputs : List ℕ) (budget : ℕ) (lent : Li
       let (a, r) = running-parts in
       let start = fresh (tableOf form rule) lent in
       let s = run-steps budget (codeOf (linesOf form script)) inputs 0 start in
-      let count : e .stepCount ≡ s .many = ap (λ x. x .stepCount) (sym r) ∙ s .counted ∙ zero-add (s .many) in
-      (
+      let count : e .stepCount ≡ s .many = ap (λ x. x .stepCount) (sym r) ∙ s .counted ∙ zero-add (s .many) in (
         a,
         (let h = s .within in omega arith),
         ap (λ x. x .final) (sym r) ∙ s .reached ∙ ap (λ k. steps k (codeOf (linesOf form script)) inputs start) (sym count)

@@ -3,21 +3,21 @@
 --     fresh-safe, step-safe, steps-safe     it holds at a fresh start, and a step keeps it
 --     Inside, step-inside, steps-inside     an accepted script never leaves its lines
 -- Assumes nothing.
-use mathlib.Core.Path.{_≡_, refl, sym, subst, ap, _∙_}
-use mathlib.Core.Logic.{_⊎_, inl, inr}
+use mathlib.Core.Path.{_≡_, refl, _∙_}
+use mathlib.Core.Logic.{inl, inr}
 use mathlib.Core.Bool.{Bool, true, false, cond, not, _&&_, _||_}
 use mathlib.Core.Option.{Option, none, some}
 use mathlib.Core.List.{List, [], _∷_}
-use Prim.Native.Nat.{ℕ, zero, suc, _+_, _≤_, _<_}
+use Prim.Native.Nat.{ℕ, zero, suc, _<_}
 use native.Mathlib.Omega.{arith}
 use lib.ListN.{length, length-set}
 use lib.Dec.{ltb}
 use borrow.Author.Tests.{lt-ltb, ltb-true}
 use Rattle.spec.specs.Logic.{registerCount, State, Trace, holds}
-use Rattle.spec.specs.Rule.{Node, falseNode, testNode, impliesNode, sinceNode, weakPreviousNode, Table, nodeAt, isSince, isWeakPrevious, lastNode, ruleOf, withPresent, valueNow, prior}
+use Rattle.spec.specs.Rule.{Node, falseNode, testNode, impliesNode, sinceNode, weakPreviousNode, Table, nodeAt, isSince, isWeakPrevious, lastNode, ruleOf, withPresent, valueNow}
 use Rattle.spec.specs.Judging.{states}
-use Rattle.spec.specs.Script.{Instruction, halt, write, branch, goto, present, setWork, keep, instructionAt, isPresent, targetOf, goesOn, isLine, followersExist}
-use Rattle.spec.specs.Facts.{Fact, valueIs, priorIs, keptIsPrior, belongs, Situation, among, firstFacts}
+use Rattle.spec.specs.Script.{Instruction, halt, write, branch, goto, present, setWork, keep, isPresent, targetOf, goesOn, followersExist}
+use Rattle.spec.specs.Facts.{valueIs, priorIs, keptIsPrior, belongs, Situation, among, firstFacts}
 use Rattle.spec.specs.Check.{Line, Lines, lineAt, codeOf, presentKnown, passedOn, targetFollows, factsFollow}
 use Rattle.spec.specs.Machine.{Machine, trace, zeros, fresh, meets, move, Stop, stops, unlessStopped, step, steps}
 use Rattle.spec.proofs.BoolLaws.{clash, and-both, le-or-lt, not-either}

@@ -5,20 +5,19 @@
 --     setting-fine                                           fine if the line after it notes no more than W of the node besides
 --     SetLines, set-lines                                    where its lines are, and what they note
 -- Assumes nothing.
-use mathlib.Core.Path.{_≡_, refl, sym, subst, subst₂, ap, _∙_}
-use mathlib.Core.Logic.{_⊎_, inl, inr}
+use mathlib.Core.Path.{_≡_, refl, sym, subst₂, ap}
+use mathlib.Core.Logic.{inl, inr}
 use mathlib.Core.Bool.{Bool, true, false, _&&_}
-use mathlib.Core.List.{List, [], _∷_, _++_}
-use Prim.Native.Nat.{ℕ, suc, _+_, _≤_, _<_}
+use Prim.Native.Nat.{ℕ, suc, _+_, _<_}
 use native.Mathlib.Omega.{arith}
 use lib.ListN.{length}
 use lib.Dec.{ltb}
 use borrow.Author.Tests.{lt-ltb, ltb-true}
 use Rattle.spec.specs.Rule.{Table, nodeAt, isPast, nextOf}
-use Rattle.spec.specs.Script.{goto, setWork, namesAllowed}
+use Rattle.spec.specs.Script.{setWork, namesAllowed}
 use Rattle.spec.specs.Facts.{Fact, valueIs, priorIs, keptIsPrior, workIsNext, workIsPrior, wordNumber, belongs, Facts, _∪_, _∖_, only, one, provided, close, pass}
-use Rattle.spec.specs.Check.{Line, Lines, lineAt, presentKnown}
-use Rattle.spec.specs.Weaver.{bareFacts, doneFacts, line, setting}
+use Rattle.spec.specs.Check.{Lines, presentKnown}
+use Rattle.spec.specs.Weaver.{bareFacts, doneFacts, setting}
 use Rattle.spec.proofs.BoolLaws.{clash, and-both, both-and, decided}
 use Rattle.spec.proofs.RuleLaws.{InOrder}
 use Rattle.spec.proofs.FactLaws.{_⊑_, ⊑-trans, in-left, in-right, union-least, minus-in, only-has, only-in, one-has, one-in, one-out, provided-in}

@@ -4,9 +4,9 @@
 --     weave-fits                so it is for every line of a woven script
 --     opcode-most, fits-small                with a target that is one of at most 1,024 lines, the whole word fits
 -- Assumes nothing.
-use mathlib.Core.Path.{_≡_, refl, sym, subst, ap, _∙_}
+use mathlib.Core.Path.{_≡_, refl, sym, subst}
 use mathlib.Core.Bool.{Bool, true, false, cond}
-use mathlib.Core.List.{List, [], _∷_, _++_}
+use mathlib.Core.List.{[], _∷_, _++_}
 use Prim.Native.Nat.{ℕ, zero, suc, _+_, _≤_, _<_}
 use native.Mathlib.Nat.{le-refl}
 use native.Mathlib.Omega.{arith}
@@ -16,9 +16,9 @@ use borrow.Author.Tests.{ltb-true}
 use Rattle.spec.specs.Logic.{Test, equal, below}
 use Rattle.spec.specs.Questions.{all}
 use Rattle.spec.specs.Rule.{Node, falseNode, testNode, impliesNode, sinceNode, weakPreviousNode, Table, nodeAt, lastNode, isPast, operands}
-use Rattle.spec.specs.Script.{Source, constant, copyOf, plus, nextInput, Condition, ifTest, ifKept, ifWork, Instruction, halt, write, branch, goto, present, setWork, keep, Code, instructionAt, isPresent, targetOf, fieldsFor, isLine, followersExist}
-use Rattle.spec.specs.Facts.{valueIs, Facts, _∪_, one}
-use Rattle.spec.specs.Check.{Line, Lines, lineAt}
+use Rattle.spec.specs.Script.{constant, copyOf, plus, nextInput, ifTest, ifKept, ifWork, Instruction, halt, write, branch, goto, present, setWork, keep, Code, instructionAt, isPresent, targetOf, fieldsFor, isLine, followersExist}
+use Rattle.spec.specs.Facts.{Facts}
+use Rattle.spec.specs.Check.{Lines, lineAt}
 use Rattle.spec.specs.Weaver.{bareFacts, doneFacts, keepFacts, line, decideSize, decideFrom, decide, setting, testAt, setAt, update, updates, keeps, blockSize, decisionAt, presentAt, block, startOf, retarget, weaveLine, weaveFrom, weave}
 use Rattle.spec.proofs.BoolLaws.{and-both}
 use Rattle.spec.proofs.RuleLaws.{InOrder, both-lower, one-lower, by-lower}

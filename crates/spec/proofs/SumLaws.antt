@@ -7,10 +7,10 @@
 --     block-lines                   and the formula is how many lines the weaver writes for a present
 -- Assumes nothing.
 use mathlib.Core.Path.{_≡_, refl, sym, subst, ap, ap₂, _∙_}
-use mathlib.Core.Logic.{_⊎_, inl, inr}
-use mathlib.Core.Bool.{Bool, true, false, cond, _&&_}
+use mathlib.Core.Logic.{inl, inr}
+use mathlib.Core.Bool.{Bool, true, cond}
 use mathlib.Core.List.{List, [], _∷_}
-use Prim.Native.Nat.{ℕ, zero, suc, _+_, _-_, _*_, _≤_, _<_}
+use Prim.Native.Nat.{ℕ, zero, suc, _+_, _*_, _≤_, _<_}
 use native.Mathlib.Nat.{le-refl}
 use native.Mathlib.Omega.{arith}
 use lib.ListN.{length}
@@ -184,8 +184,12 @@ module _ (t : Table) (ordered : InOrder t) (nonempty : 0 < length t) (once : (k 
   mentioned-sum m e =
       let z : lastNode t ≡ m = omega arith in
       let never : mentions t m ≡ 0 = subst (λ (x : ℕ). mentions t x ≡ 0) z last-never in
-      rw (z, e) (omega (arith, ap (λ (x : ℕ). x * size m) never, sum-same m (λ k. mentions t k * size k) size (λ k l.
-      ap (λ (x : ℕ). x * size k) (once k (omega arith)) ∙ one-times (size k))))
+      rw (z, e) (omega (
+        arith,
+        ap (λ (x : ℕ). x * size m) never,
+        sum-same m (λ k. mentions t k * size k) size (λ k l.
+            ap (λ (x : ℕ). x * size k) (once k (omega arith)) ∙ one-times (size k)),
+      ))
     where
       one-times : (x : ℕ) → 1 * x ≡ x
       one-times x = omega arith

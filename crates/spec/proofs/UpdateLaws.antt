@@ -4,10 +4,10 @@
 --     updates-start          the code begins with M at most
 --     updates-fine           all past nodes' code is fine if the line after it notes no more than M and W of all
 -- Assumes nothing.
-use mathlib.Core.Path.{_≡_, refl, sym, subst, ap, _∙_}
-use mathlib.Core.Logic.{_⊎_, inl, inr}
+use mathlib.Core.Path.{_≡_, refl}
+use mathlib.Core.Logic.{inl, inr}
 use mathlib.Core.Bool.{Bool, true, false, _&&_}
-use mathlib.Core.List.{List, [], _∷_, _++_}
+use mathlib.Core.List.{[], _∷_, _++_}
 use Prim.Native.Nat.{ℕ, zero, suc, _+_, _-_, _≤_, _<_}
 use native.Mathlib.Omega.{arith}
 use lib.ListN.{length, length-append}
@@ -16,7 +16,7 @@ use Rattle.spec.specs.Questions.{all}
 use Rattle.spec.specs.Rule.{Node, falseNode, testNode, impliesNode, sinceNode, weakPreviousNode, Table, nodeAt, isPast, operands}
 use Rattle.spec.specs.Script.{ifKept, branch, goto, namesAllowed}
 use Rattle.spec.specs.Facts.{valueIs, priorIs, keptIsPrior, workIsNext, workIsPrior, belongs, Facts, _∪_, one, provided, gains, close, learned, pass}
-use Rattle.spec.specs.Check.{Line, Lines, lineAt}
+use Rattle.spec.specs.Check.{Lines}
 use Rattle.spec.specs.Weaver.{bareFacts, doneFacts, line, decideSize, decide, setting, testAt, leftAt, setAt, clearAt, update, updateSize, updates, updatesSize}
 use Rattle.spec.proofs.BoolLaws.{clash, both-and, or-left, or-right, decided, le-or-lt}
 use Rattle.spec.proofs.RuleLaws.{InOrder, both-lower, one-lower}

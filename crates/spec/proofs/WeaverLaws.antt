@@ -1,26 +1,27 @@
 -- The laws of `specs/Weaver.antt` about sizes: how many lines each part of woven code has.
 --     decideSize-is, decide-is, decide-at    deciding a node, from deciding its operands
---     length-decide, length-setting, length-update, length-updates     the code of nodes
+--     length-decide, length-setting, length-update, no-update, length-updates     the code of nodes
 --     pastsBelow, pasts-count, length-keeps  the past nodes below n, and their 12 lines
 --     length-block                           a block
---     length-weaveLine, length-weaveFrom, length-weave, no-update    a woven script
+--     length-weaveLine, length-weaveFrom, length-weave, length-woven     a woven script, its lines and its words
 --     start-zero, start-next, start-past     where bare lines now start
 -- Not here: the document's formula for a block's lines (`SumLaws`). Assumes nothing.
-use mathlib.Core.Path.{_≡_, refl, sym, subst, ap, ap₂, _∙_}
+use mathlib.Core.Path.{_≡_, refl, sym, ap, ap₂, _∙_}
 use mathlib.Core.Bool.{Bool, true, false, cond}
 use mathlib.Core.List.{List, [], _∷_, _++_}
-use Prim.Native.Nat.{ℕ, zero, suc, _+_, _≤_, _<_}
+use Prim.Native.Nat.{ℕ, zero, suc, _+_, _*_, _≤_, _<_}
 use native.Mathlib.Omega.{arith}
 use lib.ListN.{length, length-append}
 use lib.Dec.{ltb}
 use Rattle.spec.specs.Questions.{all, count}
-use Rattle.spec.specs.Rule.{Node, falseNode, testNode, impliesNode, sinceNode, weakPreviousNode, Table, nodeAt, lastNode, isPast, operands}
-use Rattle.spec.specs.Script.{Instruction, Code, instructionAt, isPresent}
+use Rattle.spec.specs.Rule.{Form, Node, falseNode, testNode, impliesNode, sinceNode, weakPreviousNode, Table, tableOf, nodeAt, isPast, operands}
+use Rattle.spec.specs.Script.{Instruction, Code, instructionAt, isPresent, bareCode}
 use Rattle.spec.specs.Facts.{valueIs, Facts, _∪_, one}
-use Rattle.spec.specs.Check.{Line, Lines}
-use Rattle.spec.specs.Weaver.{sizeFrom, decideSize, Decision, decideFrom, decide, setting, update, updateSize, updates, updatesSize, keeps, keepFacts, line, blockSize, block, lineSize, startOf, weaveLine, weaveFrom, weave, wovenCount}
+use Rattle.spec.specs.Check.{Line, Lines, lineLength}
+use Rattle.spec.specs.Weaver.{sizeFrom, decideSize, Decision, decideFrom, decide, setting, update, updateSize, updates, updatesSize, keeps, keepFacts, line, blockSize, block, lineSize, startOf, weaveLine, weaveFrom, weave, wovenCount, woven, wovenLines}
 use Rattle.spec.proofs.BoolLaws.{clash}
 use Rattle.spec.proofs.RuleLaws.{InOrder, both-lower, by-lower, LooksAt, through-is}
+use Rattle.spec.proofs.StoredLaws.{length-words}
 
 -- ---- deciding
 
@@ -160,3 +161,10 @@ module _ (t : Table) (ordered : InOrder t) where
   pub length-weave : (code : Code) → length (weave t code) ≡ wovenCount t code
   unfolding weave
   length-weave code = length-weaveFrom code code 0
+
+-- ---- stored words
+
+pub length-woven : (form : Form) (rule bare : List ℕ) → InOrder (tableOf form rule) → length (woven form rule bare) ≡ lineLength * wovenLines form rule bare
+unfolding woven
+length-woven form rule bare ordered =
+    length-words form (weave (tableOf form rule) (bareCode bare)) ∙ ap (λ (n : ℕ). 8 * n) (length-weave (tableOf form rule) ordered (bareCode bare))

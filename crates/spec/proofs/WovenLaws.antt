@@ -4,22 +4,21 @@
 --     woven-fine               every line of a woven script is fine
 --     facts-passed             so questions 8 to 11 are passed
 -- Assumes nothing.
-use mathlib.Core.Path.{_≡_, refl, sym, subst, ap, _∙_}
-use mathlib.Core.Bool.{Bool, true, false, cond, not, _&&_, _||_}
-use mathlib.Core.List.{List, [], _∷_, _++_}
-use Prim.Native.Nat.{ℕ, zero, suc, _+_, _≤_, _<_}
+use mathlib.Core.Path.{_≡_, refl, sym, subst, _∙_}
+use mathlib.Core.Bool.{Bool, true, false, cond}
+use mathlib.Core.List.{[], _∷_}
+use Prim.Native.Nat.{ℕ, suc, _+_, _≤_, _<_}
 use native.Mathlib.Nat.{zero-add}
 use native.Mathlib.Omega.{arith}
 use lib.ListN.{length}
 use lib.Dec.{ltb}
 use borrow.Author.Tests.{ltb-true}
-use Rattle.spec.specs.Logic.{Test, equal, below}
-use Rattle.spec.specs.Questions.{passed, _then_}
-use Rattle.spec.specs.Rule.{Form, Table, nodeAt, isPast}
-use Rattle.spec.specs.Script.{Source, constant, copyOf, plus, nextInput, Condition, ifTest, ifKept, ifWork, Instruction, halt, write, branch, goto, present, setWork, keep, Code, instructionAt, isPresent, targetOf, goesOn, isLine, fieldsFor, namesAllowed, followersExist}
-use Rattle.spec.specs.Facts.{valueIs, keptIsPrior, workIsNext, wordNumber, _∪_, _∖_, only, every, close, firstFacts, learned, pass}
+use Rattle.spec.specs.Questions.{passed}
+use Rattle.spec.specs.Rule.{Form, Table}
+use Rattle.spec.specs.Script.{Source, ifTest, ifKept, ifWork, Instruction, halt, write, branch, goto, present, setWork, keep, Code, instructionAt, isPresent, targetOf, goesOn, isLine, fieldsFor, namesAllowed, followersExist}
+use Rattle.spec.specs.Facts.{valueIs, keptIsPrior, workIsNext, wordNumber, only, every, close, firstFacts, pass}
 use Rattle.spec.specs.Check.{Lines, lineAt, presentKnown, question8, question9, question10, question11, checkFacts}
-use Rattle.spec.specs.Weaver.{bareFacts, line, blockSize, block, lineSize, startOf, retarget, weaveLine, weaveFrom, weave}
+use Rattle.spec.specs.Weaver.{bareFacts, line, block, lineSize, startOf, retarget, weaveLine, weaveFrom, weave}
 use Rattle.spec.proofs.BoolLaws.{clash, and-both}
 use Rattle.spec.proofs.QuestionLaws.{then-passed, once-in, ask-in}
 use Rattle.spec.proofs.RuleLaws.{InOrder}
