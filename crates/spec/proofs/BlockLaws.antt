@@ -102,7 +102,8 @@ module _ (t : Table) (ordered : InOrder t) (ls : Lines) (p : ℕ) (some-node : 0
       (done-belongs t n) (record { kept = ready .kept; work = λ k l. ready .work k (omega arith) })
       (noted t ls at _ _ (s-Z .1) (extends t _)) (⊑-trans _ _ _ (r .1) (⊑-trans _ _ _ (bare-in t done (ready .kept)) (F-in₂ t ordered done _))) in
       let fine-present = fine-next t ls present refl refl refl at (done ∪ one (valueIs true) (lastNode t))
-      (has-one t ordered done (valueIs true) (lastNode t)) (s-Z .1) k-there (value-belongs t ordered done true (lastNode t) last-in (done-belongs t n))
+      (has-one t ordered done (valueIs true) (lastNode t)) (s-Z .1) k-there
+      (value-belongs t ordered done true (lastNode t) last-in (done-belongs t n))
       (⊑-trans _ _ _ k-notes (present-passes t ordered)) in
       let fine-Z : AllFine t ls at Z = (fine-present, keeps-fine t ordered ls (suc at) (s-Z .2) r′ n (le-refl n)) in
       let fine-X : AllFine t ls p X = updates-fine t ordered ls p (stands-updates t p ordered ls s) decision-start n (le-refl n) in

@@ -62,7 +62,8 @@ module _ (t : Table) (ordered : InOrder t) (ls : Lines) (inputs : List ℕ) (z :
             let q : p + (updatesSize n t + updateSize t (nodeAt t n)) ≡ p + updatesSize n t + updateSize t (nodeAt t n) = omega arith in (
               setBit W₁ n (val t ordered ls inputs z (nextOf t n)),
               more-below W₁ n work past,
-              rw q (leads-on run (update-run t ordered ls inputs z (nodeAt t n) n (p + updatesSize n t) (doneFacts t n) refl (ordered .lower n) past s₂ K W₁ kept work)),
+              rw q (leads-on run (update-run t ordered ls inputs z (nodeAt t n) n (p + updatesSize n t) (doneFacts t n) refl
+                  (ordered .lower n) past s₂ K W₁ kept work)),
             )
         | inr not-past ↦
             let q : p + (updatesSize n t + updateSize t (nodeAt t n)) ≡ p + updatesSize n t = omega (arith, no-update t (nodeAt t n) not-past) in

@@ -39,7 +39,8 @@ module _ (t : Table) (ordered : InOrder t) where
   has-one F f k = extends t (F ∪ one f k) f k (in-right F (one f k) f k (one-has f k))
 
   -- by closing at node k
-  pub gained : (H : Facts) (k : ℕ) (x : Node) → nodeAt t k ≡ x → k < length t → (f : Fact) → gains (close t H) x k f ≡ true → close t H f k ≡ true
+  pub gained : (H : Facts) (k : ℕ) (x : Node) → nodeAt t k ≡ x → k < length t → (f : Fact)
+      → gains (close t H) x k f ≡ true → close t H f k ≡ true
   gained H k x e l f g = closed t ordered H k l f (rw e g)
 
   pub F-in : (F G : Facts) → F ⊑ close t (close t F ∪ G)
@@ -169,7 +170,8 @@ module _ (t : Table) (ordered : InOrder t) (ls : Lines) where
       (or-right (close t (F ∪ isT l ∪ isT r) (valueIs false) l) _ (has-one t ordered (F ∪ isT l) (valueIs true) r)))))
       (⊑-trans _ _ _ v (one-into t ordered F (F ∪ isT l ∪ isF r) (valueIs false) k (F-in₃ t ordered F (isT l) (isF r))
       (gained t ordered (F ∪ isT l ∪ isF r) k (impliesNode l r) e lk (valueIs false)
-      (both-and (close-mono t ordered (F ∪ isT l) (F ∪ isT l ∪ isF r) (in-left (F ∪ isT l) (isF r)) (valueIs true) l (has-one t ordered F (valueIs true) l))
+      (both-and (close-mono t ordered (F ∪ isT l) (F ∪ isT l ∪ isF r) (in-left (F ∪ isT l) (isF r)) (valueIs true) l
+      (has-one t ordered F (valueIs true) l))
       (has-one t ordered (F ∪ isT l) (valueIs false) r))))) in
       fine-join t ls p left right left-fine (rw n-left right-fine)
 

@@ -81,8 +81,10 @@ word-fits w e =
     let (e₂, c) = and-both (eqb (f .opcode) (g .opcode) && eqb (f .r) (g .r)) _ e₁ in
     let (o, r) = and-both (eqb (f .opcode) (g .opcode)) _ e₂ in
     let r-small : f .r < 16 = omega arith in
-    let c-small : f .c < 16384 = omega arith in
-    (sym (eqb-true _ _ o), record { r-fits = subst (λ n. n < 16) (eqb-true _ _ r) r-small; c-fits = subst (λ n. n < 16384) (eqb-true _ _ c) c-small })
+    let c-small : f .c < 16384 = omega arith in (
+      sym (eqb-true _ _ o),
+      record { r-fits = subst (λ n. n < 16) (eqb-true _ _ r) r-small; c-fits = subst (λ n. n < 16384) (eqb-true _ _ c) c-small },
+    )
 
 code-at : (bare : List ℕ) (l : ℕ) → instructionAt (bareCode bare) l ≡ instructionRead (getD bare l 0)
 unfolding bareCode instructionRead instructionOf fieldsOf
@@ -96,7 +98,8 @@ halt-low : fieldsFor halt .opcode ≤ 8
 unfolding fieldsFor
 halt-low = omega arith
 
-pub weaving-out : (form : Form) → GoodForm form → (rule bare : List ℕ) → Weavable form rule bare → WeavingOut form (tableOf form rule) (bareCode bare)
+pub weaving-out : (form : Form) → GoodForm form → (rule bare : List ℕ) → Weavable form rule bare
+    → WeavingOut form (tableOf form rule) (bareCode bare)
 unfolding checkWeaving checkBare question12
 weaving-out form g rule bare e =
     let t = tableOf form rule in

@@ -35,7 +35,8 @@ module _ (t : Table) where
   unfolding keepFacts
   keep-in n G c m =
       union-least _ _ G (only-in workIsPrior (λ j. isPast (nodeAt t j)) G c)
-      (only-in keptIsPrior (λ j. isPast (nodeAt t j) && ltb j n) G (λ j e. let (a, b) = and-both (isPast (nodeAt t j)) (ltb j n) e in m j (ltb-true j n b) a))
+      (only-in keptIsPrior (λ j. isPast (nodeAt t j) && ltb j n) G
+      (λ j e. let (a, b) = and-both (isPast (nodeAt t j)) (ltb j n) e in m j (ltb-true j n b) a))
 
   keep-has-C : (n j : ℕ) → isPast (nodeAt t j) ≡ true → keepFacts t n workIsPrior j ≡ true
   unfolding keepFacts
@@ -60,12 +61,14 @@ module _ (t : Table) where
   keep-passes : (n : ℕ) → isPast (nodeAt t n) ≡ true → keepFacts t (suc n) ⊑ close t (pass t (keep n) false (close t (keepFacts t n)))
   unfolding pass only wordNumber
   keep-passes n past = ⊑-trans _ P _ (keep-in (suc n) P
-      (λ j p. in-left A B workIsPrior j (minus-in K (one keptIsPrior n) workIsPrior j (extends t (keepFacts t n) workIsPrior j (keep-has-C n j p)) refl))
+      (λ j p. in-left A B workIsPrior j
+      (minus-in K (one keptIsPrior n) workIsPrior j (extends t (keepFacts t n) workIsPrior j (keep-has-C n j p)) refl))
       (λ j l p. elim (le-or-lt n j) [
         | inl a ↦ let e : j ≡ n = omega arith in
-            rw e (in-right A B keptIsPrior n (provided-in _ (one keptIsPrior n) (extends t (keepFacts t n) workIsPrior n (keep-has-C n n past)) keptIsPrior n (one-has keptIsPrior n)))
-        | inr a ↦ in-left A B keptIsPrior j (minus-in K (one keptIsPrior n) keptIsPrior j (extends t (keepFacts t n) keptIsPrior j (keep-has-M n j a p))
-            (ne-eqb j n (λ e. omega arith)))
+            rw e (in-right A B keptIsPrior n (provided-in _ (one keptIsPrior n)
+            (extends t (keepFacts t n) workIsPrior n (keep-has-C n n past)) keptIsPrior n (one-has keptIsPrior n)))
+        | inr a ↦ in-left A B keptIsPrior j (minus-in K (one keptIsPrior n) keptIsPrior j
+            (extends t (keepFacts t n) keptIsPrior j (keep-has-M n j a p)) (ne-eqb j n (λ e. omega arith)))
       ]))
       (extends t P)
     where
@@ -82,7 +85,8 @@ module _ (t : Table) where
       P = A ∪ B
 
   -- what a block's present passes on
-  pub present-passes : InOrder t → keepFacts t 0 ⊑ close t (pass t present false (close t (doneFacts t (length t) ∪ one (valueIs true) (lastNode t))))
+  pub present-passes : InOrder t
+      → keepFacts t 0 ⊑ close t (pass t present false (close t (doneFacts t (length t) ∪ one (valueIs true) (lastNode t))))
   unfolding pass
   present-passes ordered = keep-in 0 (close t P) (λ j p. extends t P workIsPrior j (in-right (A ∪ B) C workIsPrior j
       (only-has workIsPrior (λ k. isPast (nodeAt t k) && D workIsNext k) j (both-and p
@@ -164,7 +168,8 @@ module _ (t : Table) (ordered : InOrder t) (ls : Lines) where
             let (l₁, e₁) = keep-line (length t) p s n l past in
             let r₂ : AtMost t ordered ls (suc q) (keepFacts t (suc n)) =
             subst (λ x. AtMost t ordered ls x (keepFacts t (suc n))) (next-place p n past) (after-keep (length t - suc n) (suc n) (omega arith)) in (
-              fine-next t ls (keep n) refl refl past q (keepFacts t n) refl e₁ (r₂ .0) (keep-belongs t n) (⊑-trans _ _ _ (r₂ .1) (keep-passes t n past)),
+              fine-next t ls (keep n) refl refl past q (keepFacts t n) refl e₁ (r₂ .0) (keep-belongs t n)
+                  (⊑-trans _ _ _ (r₂ .1) (keep-passes t n past)),
               tt,
             )
         last-fine false h = tt

@@ -2,30 +2,25 @@
 --     plainOf, same              the plain machine in a scene, seen in the woven machine
 --     Match                      the woven machine is where the plain machine's line now starts, and its kept bits are the priors
 --     Either, Moved, Stuck, Outcome   it moves on, each machine met seen as the plain machine before or after; or it stays for good
---     one-move, stuck-here       one woven step for one plain step; none
---     steps-to, stays-at         what the line that it is at does
 -- Assumes nothing.
-use mathlib.Core.Path.{_≡_, refl, sym, subst, _∙_}
-use mathlib.Core.Logic.{_⊎_, inl, inr}
+use mathlib.Core.Path.{_≡_, refl}
+use mathlib.Core.Logic.{_⊎_}
 use mathlib.Core.Bool.{true}
-use mathlib.Core.Option.{none, some}
 use mathlib.Core.List.{List}
 use Prim.Native.Nat.{ℕ, _<_}
-use native.Mathlib.Omega.{arith}
 use lib.ListN.{length}
 use Rattle.spec.specs.Logic.{registerCount}
 use Rattle.spec.specs.Rule.{Table, nodeAt, isPast, prior}
 use Rattle.spec.specs.Judging.{states}
-use Rattle.spec.specs.Script.{Instruction, Code, instructionAt}
-use Rattle.spec.specs.Check.{Line, Lines, lineAt, codeOf}
-use Rattle.spec.specs.Machine.{Machine, move, Stop, stops, step}
+use Rattle.spec.specs.Script.{Instruction, Code}
+use Rattle.spec.specs.Check.{Lines, codeOf}
+use Rattle.spec.specs.Machine.{Machine, step}
 use Rattle.spec.specs.Plain.{Plain, plainStep}
 use Rattle.spec.specs.Weaver.{line, startOf, weave}
 use Rattle.spec.specs.Promise.{SameAs}
 use Rattle.spec.proofs.RuleLaws.{InOrder}
-use Rattle.spec.proofs.PlaceLaws.{instruction-at}
-use Rattle.spec.proofs.QuietLaws.{Scene, Spot, mk, step-is}
-use Rattle.spec.proofs.WalkLaws.{Walk, end, on, size}
+use Rattle.spec.proofs.QuietLaws.{Scene, Spot, mk}
+use Rattle.spec.proofs.WalkLaws.{Walk, size}
 
 -- the plain machine at bare line l in the scene z
 abbrev pub plainOf : ℕ → Scene → Plain
@@ -64,37 +59,3 @@ module _ (t : Table) (ordered : InOrder t) (some-node : 0 < length t) (code : Co
 
   abbrev pub Outcome : Instruction → ℕ → Scene → Spot → Type 0
   Outcome i l z a = Moved i l z a ⊎ Stuck i l z a
-
-  -- one woven step for one plain step
-  pub one-move : (i : Instruction) (l : ℕ) (z : Scene) (a : Spot) (l′ : ℕ) (z′ : Scene) (a′ : Spot)
-      → plainStep t space inputs i (plainOf l z) ≡ plainOf l′ z′ → step (codeOf ls) inputs (mk z a) ≡ mk z′ a′ → Match l′ z′ a′ → Outcome i l z a
-  unfolding size
-  one-move i l z a l′ z′ a′ e n m = inl (record {
-    l′ = l′;
-    z′ = z′;
-    a′ = a′;
-    plain = e;
-    walk = on (inl (same l z a)) (subst (λ x. Walk (codeOf ls) inputs (Either l z l′ z′) x (mk z′ a′)) (sym n) (end (inr (same l′ z′ a′))));
-    some-step = omega arith;
-    match = m;
-  })
-
-  pub stuck-here : (i : Instruction) (l : ℕ) (z : Scene) (a : Spot) → plainStep t space inputs i (plainOf l z) ≡ plainOf l z
-      → step (codeOf ls) inputs (mk z a) ≡ mk z a → Outcome i l z a
-  stuck-here i l z a e n = inr (record { a′ = a; plain = e; walk = end (same l z a); stays = n })
-
-  module _ (l : ℕ) (z : Scene) (a : Spot) (m : Match l z a) where
-    abbrev p : ℕ
-    p = startOf t code l
-
-    -- the woven line's instruction, and what it does where nothing stops it
-    here-is : (x : Line) → lineAt ls p ≡ x → instructionAt (codeOf ls) (a .line) ≡ x .instruction
-    here-is x e = rw (m .place) (instruction-at ls p x e)
-
-    pub steps-to : (x : Line) (z′ : Scene) (a′ : Spot) → lineAt ls p ≡ x → stops inputs (x .instruction) (mk z a) ≡ none
-        → move inputs (x .instruction) (mk z a) ≡ mk z′ a′ → step (codeOf ls) inputs (mk z a) ≡ mk z′ a′
-    steps-to x z′ a′ e s d = step-is (codeOf ls) inputs (mk z a) (x .instruction) (here-is x e) s ∙ d
-
-    pub stays-at : (x : Line) (s : Stop) → lineAt ls p ≡ x → stops inputs (x .instruction) (mk z a) ≡ some s → step (codeOf ls) inputs (mk z a) ≡ mk z a
-    unfolding step
-    stays-at x s e d = rw (here-is x e, d)

@@ -135,7 +135,8 @@ module _ (t : Table) (ordered : InOrder t) (ls : Lines) (inputs : List ℕ) (z :
       subst (λ b. To (spot p K W) (spot (cond b y n) K W)) (w ∙ sym v) (branch-lines (ifKept k) p y n K W _ _ (s .1) (s .2 .1))
 
   pub decides : (k : ℕ) → Decides k
-  decides = by-lower Decides (λ k ih p y n F s. decides-from k ih (nodeAt t k) refl (ordered .lower k) (value-is t ordered σ (z .registers) k) p y n F
+  decides = by-lower Decides (λ k ih p y n F s.
+      decides-from k ih (nodeAt t k) refl (ordered .lower k) (value-is t ordered σ (z .registers) k) p y n F
       (subst (λ xs. Stands ls p xs) (decide-at t ordered k p y n F) s))
 
   -- ---- a past node's code
@@ -198,7 +199,8 @@ module _ (t : Table) (ordered : InOrder t) (ls : Lines) (inputs : List ℕ) (z :
       let u = decides r p set test F sX K W kept (λ i c. work i (omega arith)) in
       let w = decides l left set clear _ sL K W kept (λ i c. work i (omega arith)) in
       let m = branch-lines (ifKept k) test left clear K W _ _ (sY .1) (sY .2 .1) in
-      let decided : To (spot p K W) (spot (cond (val k) set clear) K W) = rw v (since-parts p test left set clear K W (val r) (val l) (K k) u m w) in
+      let decided : To (spot p K W) (spot (cond (val k) set clear) K W) =
+      rw v (since-parts p test left set clear K W (val r) (val l) (K k) u m w) in
       rw (← end) (leads-on decided (setting-run k k set F sZ K W (val k)))
   update-run (weakPreviousNode j) k p F e o h s K W kept work =
       let lo = one-lower k j o in

@@ -83,7 +83,8 @@ module _ (t : Table) (ordered : InOrder t) (some-node : 0 < length t) (code : Co
       ap (λ n. go n b) s ∙ steps-add (r - c) c (codeOf (weave t code)) inputs b ∙ ap (go (r - c)) e
 
   -- each plain step that moves takes a woven step or more, so r + 1 of them are enough
-  pub follows : (fuel r n l : ℕ) (z : Scene) (a : Spot) → r ≤ fuel → plain n ≡ plainOf l z → Matches l z a → (N : ℕ) × SameAs (go r (mk z a)) (plain N)
+  pub follows : (fuel r n l : ℕ) (z : Scene) (a : Spot) → r ≤ fuel → plain n ≡ plainOf l z → Matches l z a
+      → (N : ℕ) × SameAs (go r (mk z a)) (plain N)
   unfolding steps
   follows zero r n l z a h e m =
       let r-zero : r ≡ 0 = omega arith in

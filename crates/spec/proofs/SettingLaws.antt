@@ -46,7 +46,8 @@ module _ (t : Table) where
   unfolding doneFacts
   done-in k G h w =
       union-least (bareFacts t) _ G (bare-in G h)
-      (only-in workIsNext (λ j. isPast (nodeAt t j) && ltb j k) G (λ j e. let (a, b) = and-both (isPast (nodeAt t j)) (ltb j k) e in w j (ltb-true j k b) a))
+      (only-in workIsNext (λ j. isPast (nodeAt t j) && ltb j k) G
+      (λ j e. let (a, b) = and-both (isPast (nodeAt t j)) (ltb j k) e in w j (ltb-true j k b) a))
 
   pub done-ready : (ordered : InOrder t) (k : ℕ) → Ready t ordered (doneFacts t k) k
   unfolding doneFacts
@@ -110,7 +111,8 @@ module _ (t : Table) (ordered : InOrder t) where
             | inl w ↦ in-left (A ∪ B) D f j (in-right A B f j (provided-in _ (one workIsNext k) known f j w))
             | inr w ↦ elim (decided (one workIsPrior k f j)) [
               | inl c ↦ let (x, y) = one-out workIsPrior k f j c in absurd (noC (subst₂ (λ g i. F g i ≡ true) (sym x) y h))
-              | inr c ↦ in-left (A ∪ B) D f j (in-left A B f j (minus-in (C ∖ one workIsNext k) (one workIsPrior k) f j (minus-in C (one workIsNext k) f j inC w) c))
+              | inr c ↦ in-left (A ∪ B) D f j (in-left A B f j
+                  (minus-in (C ∖ one workIsNext k) (one workIsPrior k) f j (minus-in C (one workIsNext k) f j inC w) c))
             ]
           ])
 
@@ -123,7 +125,8 @@ module _ (t : Table) (ordered : InOrder t) (ls : Lines) where
   unfolding setting namesAllowed presentKnown
   setting-fine k v p F past lk e lv noC b s l3 n3 =
       let three : p + 3 ≡ suc (suc (suc p)) = omega arith in
-      let W-belongs : F ∪ one workIsNext k ⊑ belongs t = union-least F _ _ b (one-in workIsNext k (belongs t) (past-belongs t workIsNext k past lk)) in (
+      let W-belongs : F ∪ one workIsNext k ⊑ belongs t =
+      union-least F _ _ b (one-in workIsNext k (belongs t) (past-belongs t workIsNext k past lk)) in (
         fine-next t ls (setWork k true) refl refl past p (F ∪ one (valueIs true) v) refl (s .1) (s .2 .0) (value-belongs t ordered F true v lv b)
             (noted t ls (suc p) _ _ (s .2 .1) (set-passes t ordered k v true F e noC)),
         (

@@ -158,7 +158,8 @@ module _ (t : Table) (ordered : InOrder t) (few : length t ≤ 16384) (tests : (
       go true = block-fits p many
       go false = (fits-moved (startOf t code) i f, tt)
 
-  from-fits : (code rest : Code) (p : ℕ) → 0 < length t → ((l : ℕ) → l < length rest → Fits (instructionAt rest l)) → AllFit (weaveFrom t code p rest)
+  from-fits : (code rest : Code) (p : ℕ) → 0 < length t → ((l : ℕ) → l < length rest → Fits (instructionAt rest l))
+      → AllFit (weaveFrom t code p rest)
   unfolding weaveFrom
   from-fits code [] p many h = tt
   from-fits code (i ∷ rest) p many h =

@@ -72,7 +72,8 @@ sum-pick (suc n) j g l =
     elim (le-or-lt n j) [
       | inl h ↦ let z : n ≡ j = omega arith in
           let e : bit (eqb j n) * g n ≡ g j = rw (z, eq-eqb j j refl) (omega arith) in
-          let rest : sum n (λ k. bit (eqb j k) * g k) ≡ 0 = sum-zero n _ (λ k l. ap (λ b. bit b * g k) (ne-eqb j k (λ d. omega arith)) ∙ omega arith) in
+          let rest : sum n (λ k. bit (eqb j k) * g k) ≡ 0 =
+          sum-zero n _ (λ k l. ap (λ b. bit b * g k) (ne-eqb j k (λ d. omega arith)) ∙ omega arith) in
           omega arith
       | inr h ↦ let e : bit (eqb j n) * g n ≡ 0 = rw (ne-eqb j n (λ d. omega arith)) (omega arith) in
           omega (arith, sum-pick n j g h)
@@ -201,7 +202,8 @@ module _ (t : Table) (ordered : InOrder t) (nonempty : 0 < length t) (once : (k 
       ∙ ap (λ (a : ℕ). sum (length t) size + a) (sym (sum-plus (length t) (λ k. updateSize t (nodeAt t k)) (λ k. bit (isPast (nodeAt t k)))))
       ∙ sym (sum-plus (length t) size (λ k. updateSize t (nodeAt t k) + bit (isPast (nodeAt t k))))
       ∙ sum-same (length t) _ (λ k. own (nodeAt t k) + overOperands size (operands (nodeAt t k)))
-      (λ k l. ap (λ (a : ℕ). a + (updateSize t (nodeAt t k) + bit (isPast (nodeAt t k)))) (decideSize-is t ordered k) ∙ node-lines t k (nodeAt t k))
+      (λ k l. ap (λ (a : ℕ). a + (updateSize t (nodeAt t k) + bit (isPast (nodeAt t k)))) (decideSize-is t ordered k)
+      ∙ node-lines t k (nodeAt t k))
       ∙ sum-plus (length t) (λ k. own (nodeAt t k)) (λ k. overOperands size (operands (nodeAt t k)))
       ∙ ap (λ (a : ℕ). sum (length t) (λ k. own (nodeAt t k)) + a) operands-sum
 
@@ -211,7 +213,8 @@ module _ (t : Table) (ordered : InOrder t) (nonempty : 0 < length t) (once : (k 
 
 -- ---- a rule that passes questions 1 to 4
 
-pub block-size-is : (form : Form) (rule : List ℕ) → checkRule form rule ≡ passed tt → blockSize (tableOf form rule) ≡ blockLines (tableOf form rule)
+pub block-size-is : (form : Form) (rule : List ℕ) → checkRule form rule ≡ passed tt
+    → blockSize (tableOf form rule) ≡ blockLines (tableOf form rule)
 block-size-is form rule e =
     let r = rule-out form rule e in
     let some : 0 < length rule = r .some-node in

@@ -32,7 +32,8 @@ use Rattle.spec.proofs.SettingLaws.{bare-has, done-in, done-ready, done
 
 module _ (t : Table) (ordered : InOrder t) where
   -- the 10 of node k tells its prior
-  kept-tells : (k y : ℕ) (G : Facts) (b : Bool) → G keptIsPrior k ≡ true → G ∪ one (priorIs b) k ⊑ close t (pass t (branch (ifKept k) y) b (close t G))
+  kept-tells : (k y : ℕ) (G : Facts) (b : Bool) → G keptIsPrior k ≡ true
+      → G ∪ one (priorIs b) k ⊑ close t (pass t (branch (ifKept k) y) b (close t G))
   unfolding pass learned
   kept-tells k y G b w =
       let P = provided (close t G keptIsPrior k) (one (priorIs b) k) in
@@ -139,7 +140,8 @@ module _ (t : Table) (ordered : InOrder t) (ls : Lines) where
       let fine-Y : AllF test Y = (fine-B₁, (fine-B₂, rw two fine-L)) in
       fine-join t ls p (X ++ Y) Z (fine-join t ls p X Y fine-X (rw n-X fine-Y)) (rw at-set fine-Z)
 
-  pub update-fine : (x : Node) (k p : ℕ) (F : Facts) → nodeAt t k ≡ x → all (λ j. ltb j k) (operands x) ≡ true → isPast x ≡ true → UpdateFine x k p F
+  pub update-fine : (x : Node) (k p : ℕ) (F : Facts) → nodeAt t k ≡ x → all (λ j. ltb j k) (operands x) ≡ true → isPast x ≡ true
+      → UpdateFine x k p F
   update-fine falseNode k p F e o h = clash h refl
   update-fine (testNode a) k p F e o h = clash h refl
   update-fine (impliesNode l r) k p F e o h = clash h refl

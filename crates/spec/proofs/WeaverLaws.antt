@@ -164,7 +164,9 @@ module _ (t : Table) (ordered : InOrder t) where
 
 -- ---- stored words
 
-pub length-woven : (form : Form) (rule bare : List ℕ) → InOrder (tableOf form rule) → length (woven form rule bare) ≡ lineLength * wovenLines form rule bare
+pub length-woven : (form : Form) (rule bare : List ℕ) → InOrder (tableOf form rule)
+    → length (woven form rule bare) ≡ lineLength * wovenLines form rule bare
 unfolding woven
 length-woven form rule bare ordered =
-    length-words form (weave (tableOf form rule) (bareCode bare)) ∙ ap (λ (n : ℕ). 8 * n) (length-weave (tableOf form rule) ordered (bareCode bare))
+    length-words form (weave (tableOf form rule) (bareCode bare))
+    ∙ ap (λ (n : ℕ). 8 * n) (length-weave (tableOf form rule) ordered (bareCode bare))

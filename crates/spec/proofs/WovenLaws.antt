@@ -105,7 +105,8 @@ module _ (t : Table) (ordered : InOrder t) (some-node : 0 < length t) (code : Co
   line-fine l p (goto y) b n f nx s =
       let (fy, fn) = and-both (ltb y (length code)) _ f in
       let ry = line-entry y (ltb-true y (length code) fy) in (
-        fine-go t ls p (startOf t code y) (bareFacts t) (s .1) (ry .0) (bare-belongs t) (⊑-trans _ _ _ (ry .1) (⊑-trans _ _ _ (extends t _) (extends t _))),
+        fine-go t ls p (startOf t code y) (bareFacts t) (s .1) (ry .0) (bare-belongs t)
+            (⊑-trans _ _ _ (ry .1) (⊑-trans _ _ _ (extends t _) (extends t _))),
         tt,
       )
   line-fine l p present b n f nx s = block-fine t ordered ls p some-node s (nx refl)
@@ -123,7 +124,8 @@ module _ (t : Table) (ordered : InOrder t) (some-node : 0 < length t) (code : Co
       let z : p + 0 ≡ p = omega arith in
       fine-join t ls p (weaveLine t code p i) _ (rw z at (h 0 (omega arith)))
       (rw (length-weaveLine t ordered code p i) (fine-from rest (p + lineSize t i)
-      (λ l k. let e : p + (lineSize t i + startOf t rest l) ≡ p + lineSize t i + startOf t rest l = omega arith in rw e at (h (suc l) (omega arith)))))
+      (λ l k. let e : p + (lineSize t i + startOf t rest l) ≡ p + lineSize t i + startOf t rest l = omega arith in
+      rw e at (h (suc l) (omega arith)))))
 
   weave-is : weave t code ≡ weaveFrom t code 0 code
   unfolding weave
