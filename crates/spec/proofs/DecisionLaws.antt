@@ -3,7 +3,7 @@
 --     Ready, ready-more                what deciding needs: M of every past node, W of those below b
 --     value-belongs                    facts that belong, with a node's value
 --     entry                            the code begins with the facts that it starts from
---     decide-fine                      it is fine if its two places note no more than the node's value tells
+--     DecidesFine, decide-fine         it is fine if its two places note no more than the node's value tells
 -- Assumes nothing.
 use mathlib.Core.Path.{_≡_, refl, sym, subst, ap}
 use mathlib.Core.Bool.{Bool, true, false}

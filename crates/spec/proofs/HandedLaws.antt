@@ -1,5 +1,5 @@
 -- Every script the weaver hands out is accepted (`specs/Weaver.antt`, `specs/Check.antt`).
---     WeavingOut, weaving-out     what questions 1 to 7 and 12 say of a bare script
+--     weaving-rule, WeavingOut, weaving-out     what questions 1 to 7 and 12 say of a bare script
 --     read-back                   the woven words are read back as the woven lines
 --     handed-accepted             the woven script passes questions 1 to 11
 -- Assumes nothing.

@@ -3,7 +3,7 @@
 --     Bits, Scene, Spot, mk, spot      a machine in two parts: what stays through a quiet stretch, and what moves
 --     Leads, leads-on                  a quiet stretch of steps
 --     step-is                          a step where nothing stops it
---     val, KeptOk, WorkBelow, To       a node's value; bits that are right; a quiet stretch of the lines
+--     σ, val, KeptOk, WorkBelow, To    the history as a trace; a node's value; bits that are right; a quiet stretch of the lines
 --     one-step, decides, update-run    one step; deciding; a past node's code
 -- Assumes nothing.
 use mathlib.Core.Path.{_≡_, refl, sym, subst, ap, _∙_}

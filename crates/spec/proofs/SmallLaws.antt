@@ -1,6 +1,6 @@
 -- Every woven instruction fits the fields of its word (`specs/Script.antt`, `specs/Weaver.antt`).
 --     Fits, AllFit, fit-at      register and constant fit
---     fits-test                 so it is for a branch on a test with a small register and constant
+--     SmallTest, fits-test      so it is for a branch on a test with a small register and constant
 --     weave-fits                so it is for every line of a woven script
 --     opcode-most, fits-small                with a target that is one of at most 1,024 lines, the whole word fits
 -- Assumes nothing.

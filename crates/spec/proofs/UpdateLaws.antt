@@ -1,6 +1,6 @@
 -- A past node's code, and all of it in a block, pass questions 6 to 11 (`specs/Weaver.antt`).
 --     update-fine            a past node's code is fine if the line after it notes no more than its facts and W of the node
---     AtMost                 a place that is a line and notes no more than these facts
+--     AtMost, at-most        a place that is a line and notes no more than these facts
 --     updates-start          the code begins with M at most
 --     updates-fine           all past nodes' code is fine if the line after it notes no more than M and W of all
 -- Assumes nothing.
