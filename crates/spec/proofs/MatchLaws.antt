@@ -5,42 +5,36 @@
 -- Assumes nothing.
 use mathlib.Core.Path.{_≡_, refl}
 use mathlib.Core.Logic.{_⊎_}
-use mathlib.Core.Bool.{true}
 use mathlib.Core.List.{List}
 use Prim.Native.Nat.{ℕ, _<_}
 use lib.ListN.{length}
 use Rattle.spec.specs.Logic.{registerCount}
-use Rattle.spec.specs.Rule.{Table, nodeAt, isPast, prior}
-use Rattle.spec.specs.Judging.{states}
+use Rattle.spec.specs.Rule.{Table}
 use Rattle.spec.specs.Script.{Instruction, Code}
-use Rattle.spec.specs.Check.{Lines, codeOf}
+use Rattle.spec.specs.Check.{codeOf}
 use Rattle.spec.specs.Machine.{Machine, step}
 use Rattle.spec.specs.Plain.{Plain, plainStep}
 use Rattle.spec.specs.Weaver.{line, startOf, weave}
 use Rattle.spec.specs.Promise.{SameAs}
-use Rattle.spec.proofs.RuleLaws.{InOrder}
-use Rattle.spec.proofs.QuietLaws.{Scene, Spot, mk}
+use Rattle.spec.proofs.QuietLaws.{Scene, Spot, mk, traceOf, KeptOk}
 use Rattle.spec.proofs.WalkLaws.{Walk, size}
 
 -- the plain machine at bare line l in the scene z
 abbrev pub plainOf : ℕ → Scene → Plain
-plainOf l z = record { line = l; registers = z .registers; inputsRead = z .inputsRead; history = states (z .presentations) (z .history) }
+plainOf l z = record { line = l; registers = z .registers; inputsRead = z .inputsRead; history = traceOf z }
 
 pub same : (l : ℕ) (z : Scene) (a : Spot) → SameAs (mk z a) (plainOf l z)
 same l z a = record { history = refl; registers = refl; inputsRead = refl }
 
-module _ (t : Table) (ordered : InOrder t) (some-node : 0 < length t) (code : Code) (inputs : List ℕ) (space : ℕ) where
-  abbrev ls : Lines
-  ls = weave t code
+abbrev pub Either : ℕ → Scene → ℕ → Scene → Machine → Type 0
+Either l z l′ z′ m = SameAs m (plainOf l z) ⊎ SameAs m (plainOf l′ z′)
 
+module _ (t : Table) (code : Code) (inputs : List ℕ) (space : ℕ) where
   pub record Match (l : ℕ) (z : Scene) (a : Spot) : Type 0 where
     pub place : a .line ≡ startOf t code l
-    pub bits : (k : ℕ) → isPast (nodeAt t k) ≡ true → a .kept k ≡ prior t (states (z .presentations) (z .history)) (z .registers) k
+    pub bits : KeptOk t z (a .kept)
     pub sixteen : length (z .registers) ≡ registerCount
     pub lent : length (z .history) ≡ space
-
-  abbrev pub Either : ℕ → Scene → ℕ → Scene → Machine → Type 0
-  Either l z l′ z′ m = SameAs m (plainOf l z) ⊎ SameAs m (plainOf l′ z′)
 
   pub record Moved (i : Instruction) (l : ℕ) (z : Scene) (a : Spot) : Type 0 where
     pub l′ : ℕ

@@ -3,7 +3,8 @@
 --     Bits, Scene, Spot, mk, spot      a machine in two parts: what stays through a quiet stretch, and what moves
 --     Leads, leads-on                  a quiet stretch of steps
 --     step-is                          a step where nothing stops it
---     σ, val, KeptOk, WorkBelow, To    the history as a trace; a node's value; bits that are right; a quiet stretch of the lines
+--     traceOf, val, KeptOk, WorkBelow  the history as a trace; a node's value; bits that are right
+--     To                               a quiet stretch of the lines
 --     one-step, decides, update-run    one step; deciding; a past node's code
 -- Assumes nothing.
 use mathlib.Core.Path.{_≡_, refl, sym, subst, ap, _∙_}
@@ -64,19 +65,22 @@ pub step-is : (code : Code) (inputs : List ℕ) (m : Machine) (i : Instruction) 
 unfolding step
 step-is code inputs m i e s = rw (e, s)
 
-module _ (t : Table) (ordered : InOrder t) (ls : Lines) (inputs : List ℕ) (z : Scene) where
-  abbrev pub σ : Trace
-  σ = states (z .presentations) (z .history)
+abbrev pub traceOf : Scene → Trace
+traceOf z = states (z .presentations) (z .history)
 
+-- what is right in a scene
+module _ (t : Table) (z : Scene) where
   abbrev pub val : ℕ → Bool
-  val k = valueNow t σ (z .registers) k
+  val k = valueNow t (traceOf z) (z .registers) k
 
   abbrev pub KeptOk : Bits → Type 0
-  KeptOk K = (k : ℕ) → isPast (nodeAt t k) ≡ true → K k ≡ prior t σ (z .registers) k
+  KeptOk K = (k : ℕ) → isPast (nodeAt t k) ≡ true → K k ≡ prior t (traceOf z) (z .registers) k
 
   abbrev pub WorkBelow : Bits → ℕ → Type 0
-  WorkBelow W b = (k : ℕ) → k < b → isPast (nodeAt t k) ≡ true → W k ≡ nextPrior t σ (z .registers) k
+  WorkBelow W b = (k : ℕ) → k < b → isPast (nodeAt t k) ≡ true → W k ≡ nextPrior t (traceOf z) (z .registers) k
 
+-- quiet stretches of the lines
+module _ (ls : Lines) (inputs : List ℕ) (z : Scene) where
   abbrev pub To : Spot → Spot → Type 0
   To a b = Leads (codeOf ls) inputs z a b
 
@@ -87,8 +91,6 @@ module _ (t : Table) (ordered : InOrder t) (ls : Lines) (inputs : List ℕ) (z :
   go-line : (p l : ℕ) (K W : Bits) (F : Facts) → lineAt ls p ≡ line (goto l) F → To (spot p K W) (spot l K W)
   unfolding stops move
   go-line p l K W F e = one-step (spot p K W) (spot l K W) (line (goto l) F) e refl refl
-
-  -- ---- deciding
 
   two-way : (p y n : ℕ) (K W : Bits) (b : Bool) → To (spot p K W) (spot (cond b y (suc p)) K W) → To (spot (suc p) K W) (spot n K W)
       → To (spot p K W) (spot (cond b y n) K W)
@@ -106,40 +108,6 @@ module _ (t : Table) (ordered : InOrder t) (ls : Lines) (inputs : List ℕ) (z :
       → To (spot q K W) (spot (cond b y n) K W) → To (spot p K W) (spot (cond (not a || b) y n) K W)
   both-parts p q y n K W true b u v = leads-on u v
   both-parts p q y n K W false b u v = u
-
-  abbrev Decides : ℕ → Type 0
-  Decides k = (p y n : ℕ) (F : Facts) → Stands ls p (decide t k p y n F) → (K W : Bits) → KeptOk K → WorkBelow W (suc k)
-      → To (spot p K W) (spot (cond (val k) y n) K W)
-
-  decides-from : (k : ℕ) → ((j : ℕ) → j < k → Decides j) → (x : Node) → nodeAt t k ≡ x → all (λ j. ltb j k) (operands x) ≡ true
-      → val k ≡ valueFrom t σ (z .registers) x k
-      → (p y n : ℕ) (F : Facts) → Stands ls p (decideFrom t (decide t) x k p y n F) → (K W : Bits) → KeptOk K → WorkBelow W (suc k)
-      → To (spot p K W) (spot (cond (val k) y n) K W)
-  unfolding decideFrom valueFrom prior meets
-  decides-from k ih falseNode e o v p y n F s K W kept work = rw v (go-line p n K W F (s .1))
-  decides-from k ih (testNode a) e o v p y n F s K W kept work = rw v (branch-lines (ifTest a) p y n K W _ _ (s .1) (s .2 .1))
-  decides-from k ih (impliesNode l r) e o v p y n F s K W kept work =
-      let (lo, ro) = both-lower k l r o in
-      let q = p + decideSize t l in
-      let left = decide t l p q y F in
-      let right = decide t r q y n (F ∪ one (valueIs true) l) in
-      let sr = stands-right ls p left right s in
-      rw v (both-parts p (p + decideSize t l) y n K W (val l) (val r)
-      (ih l lo p _ y F (stands-left ls p left right s) K W kept (λ j h. work j (omega arith)))
-      (ih r ro _ y n _ (rw (length-decide t ordered l p (p + decideSize t l) y F) at sr) K W kept (λ j h. work j (omega arith))))
-  decides-from k ih (sinceNode l r) e o v p y n F s K W kept work =
-      let w : W k ≡ val k = rw e at (work k (le-refl (suc k)) (rw e refl)) in
-      subst (λ b. To (spot p K W) (spot (cond b y n) K W)) w (branch-lines (ifWork k) p y n K W _ _ (s .1) (s .2 .1))
-  decides-from k ih (weakPreviousNode j) e o v p y n F s K W kept work =
-      let w : K k ≡ priorFrom t σ (z .registers) (weakPreviousNode j) k = rw e at (kept k (rw e refl)) in
-      subst (λ b. To (spot p K W) (spot (cond b y n) K W)) (w ∙ sym v) (branch-lines (ifKept k) p y n K W _ _ (s .1) (s .2 .1))
-
-  pub decides : (k : ℕ) → Decides k
-  decides = by-lower Decides (λ k ih p y n F s.
-      decides-from k ih (nodeAt t k) refl (ordered .lower k) (value-is t ordered σ (z .registers) k) p y n F
-      (subst (λ xs. Stands ls p xs) (decide-at t ordered k p y n F) s))
-
-  -- ---- a past node's code
 
   setting-run : (k v p : ℕ) (F : Facts) → Stands ls p (setting k v p F) → (K W : Bits) (b : Bool)
       → To (spot (cond b p (p + 2)) K W) (spot (p + 3) K (setBit W k b))
@@ -160,16 +128,51 @@ module _ (t : Table) (ordered : InOrder t) (ls : Lines) (inputs : List ℕ) (z :
   since-parts p test left set clear K W false false true u v w = leads-on u (leads-on v w)
   since-parts p test left set clear K W false false false u v w = leads-on u v
 
-  since-bit : (k l r : ℕ) → nodeAt t k ≡ sinceNode l r → (K : Bits) → KeptOk K → val k ≡ (val r || val l && K k)
+-- ---- deciding, and a past node's code
+
+module _ (t : Table) (ordered : InOrder t) (ls : Lines) (inputs : List ℕ) (z : Scene) where
+  abbrev Decides : ℕ → Type 0
+  Decides k = (p y n : ℕ) (F : Facts) → Stands ls p (decide t k p y n F) → (K W : Bits) → KeptOk t z K → WorkBelow t z W (suc k)
+      → To ls inputs z (spot p K W) (spot (cond (val t z k) y n) K W)
+
+  decides-from : (k : ℕ) → ((j : ℕ) → j < k → Decides j) → (x : Node) → nodeAt t k ≡ x → all (λ j. ltb j k) (operands x) ≡ true
+      → val t z k ≡ valueFrom t (traceOf z) (z .registers) x k
+      → (p y n : ℕ) (F : Facts) → Stands ls p (decideFrom t (decide t) x k p y n F) → (K W : Bits) → KeptOk t z K → WorkBelow t z W (suc k)
+      → To ls inputs z (spot p K W) (spot (cond (val t z k) y n) K W)
+  unfolding decideFrom valueFrom prior meets
+  decides-from k ih falseNode e o v p y n F s K W kept work = rw v (go-line ls inputs z p n K W F (s .1))
+  decides-from k ih (testNode a) e o v p y n F s K W kept work = rw v (branch-lines ls inputs z (ifTest a) p y n K W _ _ (s .1) (s .2 .1))
+  decides-from k ih (impliesNode l r) e o v p y n F s K W kept work =
+      let (lo, ro) = both-lower k l r o in
+      let q = p + decideSize t l in
+      let left = decide t l p q y F in
+      let right = decide t r q y n (F ∪ one (valueIs true) l) in
+      let sr = stands-right ls p left right s in
+      rw v (both-parts ls inputs z p (p + decideSize t l) y n K W (val t z l) (val t z r)
+      (ih l lo p _ y F (stands-left ls p left right s) K W kept (λ j h. work j (omega arith)))
+      (ih r ro _ y n _ (rw (length-decide t ordered l p (p + decideSize t l) y F) at sr) K W kept (λ j h. work j (omega arith))))
+  decides-from k ih (sinceNode l r) e o v p y n F s K W kept work =
+      let w : W k ≡ val t z k = rw e at (work k (le-refl (suc k)) (rw e refl)) in
+      subst (λ b. To ls inputs z (spot p K W) (spot (cond b y n) K W)) w (branch-lines ls inputs z (ifWork k) p y n K W _ _ (s .1) (s .2 .1))
+  decides-from k ih (weakPreviousNode j) e o v p y n F s K W kept work =
+      let w : K k ≡ priorFrom t (traceOf z) (z .registers) (weakPreviousNode j) k = rw e at (kept k (rw e refl)) in
+      subst (λ b. To ls inputs z (spot p K W) (spot (cond b y n) K W)) (w ∙ sym v) (branch-lines ls inputs z (ifKept k) p y n K W _ _ (s .1) (s .2 .1))
+
+  pub decides : (k : ℕ) → Decides k
+  decides = by-lower Decides (λ k ih p y n F s.
+      decides-from k ih (nodeAt t k) refl (ordered .lower k) (value-is t ordered (traceOf z) (z .registers) k) p y n F
+      (subst (λ xs. Stands ls p xs) (decide-at t ordered k p y n F) s))
+
+  since-bit : (k l r : ℕ) → nodeAt t k ≡ sinceNode l r → (K : Bits) → KeptOk t z K → val t z k ≡ (val t z r || val t z l && K k)
   unfolding valueFrom prior
   since-bit k l r e K kept =
-      let v : val k ≡ valueFrom t σ (z .registers) (sinceNode l r) k = rw e at (value-is t ordered σ (z .registers) k) in
-      let w : K k ≡ priorFrom t σ (z .registers) (sinceNode l r) k = rw e at (kept k (rw e refl)) in
-      v ∙ ap (λ b. val r || val l && b) (sym w)
+      let v : val t z k ≡ valueFrom t (traceOf z) (z .registers) (sinceNode l r) k = rw e at (value-is t ordered (traceOf z) (z .registers) k) in
+      let w : K k ≡ priorFrom t (traceOf z) (z .registers) (sinceNode l r) k = rw e at (kept k (rw e refl)) in
+      v ∙ ap (λ b. val t z r || val t z l && b) (sym w)
 
   pub update-run : (x : Node) (k p : ℕ) (F : Facts) → nodeAt t k ≡ x → all (λ j. ltb j k) (operands x) ≡ true → isPast x ≡ true
-      → Stands ls p (update t x k p F) → (K W : Bits) → KeptOk K → WorkBelow W k
-      → To (spot p K W) (spot (p + updateSize t x) K (setBit W k (val (nextFrom x k))))
+      → Stands ls p (update t x k p F) → (K W : Bits) → KeptOk t z K → WorkBelow t z W k
+      → To ls inputs z (spot p K W) (spot (p + updateSize t x) K (setBit W k (val t z (nextFrom x k))))
   unfolding update updateSize meets
   update-run falseNode k p F e o h s K W kept work = clash h refl
   update-run (testNode a) k p F e o h s K W kept work = clash h refl
@@ -194,14 +197,14 @@ module _ (t : Table) (ordered : InOrder t) (ls : Lines) (inputs : List ℕ) (z :
       let n-L : length L ≡ decideSize t l = length-decide t ordered l left set clear (G ∪ one (priorIs true) k) in
       let at-set : p + length (X ++ Y) ≡ set = omega (arith, length-append X Y) in
       let sZ : Stands ls set Z = rw at-set at (stands-right ls p (X ++ Y) Z s) in
-      let v : val k ≡ (val r || val l && K k) = since-bit k l r e K kept in
+      let v : val t z k ≡ (val t z r || val t z l && K k) = since-bit k l r e K kept in
       let end : set + 3 ≡ p + (decideSize t r + 2 + decideSize t l + 3) = omega arith in
       let u = decides r p set test F sX K W kept (λ i c. work i (omega arith)) in
       let w = decides l left set clear _ sL K W kept (λ i c. work i (omega arith)) in
-      let m = branch-lines (ifKept k) test left clear K W _ _ (sY .1) (sY .2 .1) in
-      let decided : To (spot p K W) (spot (cond (val k) set clear) K W) =
-      rw v (since-parts p test left set clear K W (val r) (val l) (K k) u m w) in
-      rw (← end) (leads-on decided (setting-run k k set F sZ K W (val k)))
+      let m = branch-lines ls inputs z (ifKept k) test left clear K W _ _ (sY .1) (sY .2 .1) in
+      let decided : To ls inputs z (spot p K W) (spot (cond (val t z k) set clear) K W) =
+      rw v (since-parts ls inputs z p test left set clear K W (val t z r) (val t z l) (K k) u m w) in
+      rw (← end) (leads-on decided (setting-run ls inputs z k k set F sZ K W (val t z k)))
   update-run (weakPreviousNode j) k p F e o h s K W kept work =
       let lo = one-lower k j o in
       let set = p + decideSize t j in
@@ -210,4 +213,4 @@ module _ (t : Table) (ordered : InOrder t) (ls : Lines) (inputs : List ℕ) (z :
       let sZ : Stands ls set Z = rw (length-decide t ordered j p set (set + 2) F) at (stands-right ls p X Z s) in
       let end : set + 3 ≡ p + (decideSize t j + 3) = omega arith in
       rw (← end) (leads-on (decides j p set (set + 2) F (stands-left ls p X Z s) K W kept (λ i h. work i (omega arith)))
-      (setting-run k j set F sZ K W (val j)))
+      (setting-run ls inputs z k j set F sZ K W (val t z j)))
