@@ -3,3 +3,4 @@ pub mod OverLaws
 pub mod GrowthLaws
 pub mod SimpleLaws
 pub mod DecisionLaws
+pub mod UpdateLaws

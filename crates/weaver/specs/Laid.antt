@@ -4,10 +4,10 @@ use mathlib.Core.List.{List}
 use Prim.Native.Nat.{ℕ, _+_, _*_, _<_, _≤_}
 use lib.ListN.{length, getD}
 use Rattle.spec.specs.Questions.{passed}
-use Rattle.spec.specs.Rule.{form32, Table, tableOf, checkRule}
+use Rattle.spec.specs.Rule.{form32, field, Table, tableOf, nodeAt, checkRule}
 use Rattle.spec.specs.Script.{Code, bareCode, mostLines}
 use Rattle.spec.specs.Check.{lineLength}
-use Rattle.spec.specs.Weaver.{decideSize, startOf, checkWeaving}
+use Rattle.spec.specs.Weaver.{decideSize, updateSize, startOf, checkWeaving}
 
 abbrev pub tableIn : (rule : List ℕ) → Table
 tableIn rule = tableOf form32 rule
@@ -25,6 +25,28 @@ pub record Deciding (rule sizes : List ℕ) (k place onTrue onFalse : ℕ) (out 
   pub falseLine : onFalse < mostLines
   pub inScript : place + decideSize (tableIn rule) k ≤ mostLines
   pub inOutput : lineLength * decideSize (tableIn rule) k ≤ length out
+
+-- node k's code can be written at `place`, before another line, and the output has space for it
+pub record Updating (rule sizes : List ℕ) (k place : ℕ) (out : List ℕ) : Type 0 where
+  pub sized : Sized rule sizes
+  pub isNode : k < length rule
+  pub inScript : place + updateSize (tableIn rule) (nodeAt (tableIn rule) k) < mostLines
+  pub inOutput : lineLength * updateSize (tableIn rule) (nodeAt (tableIn rule) k) ≤ length out
+
+-- the operands of node k, from its word
+abbrev pub leftIn : (rule : List ℕ) → ℕ → ℕ
+leftIn rule k = field 6 5 (getD rule k 0)
+
+abbrev pub rightIn : (rule : List ℕ) → ℕ → ℕ
+rightIn rule k = field 1 5 (getD rule k 0)
+
+-- the rest of a since node's code, after deciding right, can be written at `place`, before another line
+pub record Ending (rule sizes : List ℕ) (k place : ℕ) (out : List ℕ) : Type 0 where
+  pub sized : Sized rule sizes
+  pub isNode : k < length rule
+  pub lower : (leftIn rule k < k) × (rightIn rule k < k)
+  pub inScript : place + 2 + decideSize (tableIn rule) (leftIn rule k) + 3 < mostLines
+  pub inOutput : lineLength * (2 + decideSize (tableIn rule) (leftIn rule k) + 3) ≤ length out
 
 -- how far two starts in the table of starts are apart
 abbrev pub interval : ℕ

@@ -1,6 +1,7 @@
 // Deciding a node towards two places.
 use crate::line::code;
 use crate::line::put_line;
+use crate::line::put_two;
 use checker::facts::Facts;
 use checker::facts::learn_value;
 ghost use mathlib.Core.Path.{_≡_};
@@ -23,11 +24,12 @@ fn put_leaf(branch: u32, k: usize, on_false: usize, x: Facts, out: &mut [u32])
     requires { ⌜ (k < capacity) × («on_false» < 1024) × (16 ≤ length (now out)) ⌝ }
     ensures { λ r. ⌜ now (out .exit) ≡ over (storedLine branch (factsOf x) ++ storedLine (wordFor (goto «on_false»)) (factsOf x ∪ one (valueIs false) k)) (now (out .entry)) ⌝ }
 {
-    put_line(branch, x, out);
-    put_line(
+    put_two(
+        branch,
+        x,
         code(7, 0, 0, on_false),
         learn_value(x, k, false, true),
-        &mut out[8..],
+        out,
     );
 }
 
