@@ -3,11 +3,11 @@ use mathlib.Core.Path.{_≡_}
 use mathlib.Core.List.{List}
 use Prim.Native.Nat.{ℕ, _+_, _*_, _<_, _≤_}
 use lib.ListN.{length, getD}
-use Rattle.spec.specs.Questions.{passed}
-use Rattle.spec.specs.Rule.{form32, field, Table, tableOf, nodeAt, checkRule}
+use Rattle.spec.specs.Questions.{count, passed}
+use Rattle.spec.specs.Rule.{form32, field, Table, tableOf, nodeAt, lastNode, isPast, checkRule}
 use Rattle.spec.specs.Script.{Code, bareCode, mostLines}
 use Rattle.spec.specs.Check.{lineLength}
-use Rattle.spec.specs.Weaver.{decideSize, updateSize, startOf, checkWeaving}
+use Rattle.spec.specs.Weaver.{decideSize, updateSize, updatesSize, blockSize, startOf, checkWeaving}
 
 abbrev pub tableIn : (rule : List ℕ) → Table
 tableIn rule = tableOf form32 rule
@@ -47,6 +47,25 @@ pub record Ending (rule sizes : List ℕ) (k place : ℕ) (out : List ℕ) : Typ
   pub lower : (leftIn rule k < k) × (rightIn rule k < k)
   pub inScript : place + 2 + decideSize (tableIn rule) (leftIn rule k) + 3 < mostLines
   pub inOutput : lineLength * (2 + decideSize (tableIn rule) (leftIn rule k) + 3) ≤ length out
+
+-- the code of all past nodes can be written at `place`, before another line
+pub record Updatable (rule sizes : List ℕ) (place : ℕ) (out : List ℕ) : Type 0 where
+  pub sized : Sized rule sizes
+  pub inScript : place + updatesSize (length rule) (tableIn rule) < mostLines
+  pub inOutput : lineLength * updatesSize (length rule) (tableIn rule) ≤ length out
+
+-- the rest of a block can be written at `place`; `end` is a line
+pub record Guarding (rule sizes : List ℕ) (place end : ℕ) (out : List ℕ) : Type 0 where
+  pub sized : Sized rule sizes
+  pub endLine : end < mostLines
+  pub inScript : place + decideSize (tableIn rule) (lastNode (tableIn rule)) < mostLines
+  pub inOutput : lineLength * (decideSize (tableIn rule) (lastNode (tableIn rule)) + (1 + count isPast (tableIn rule))) ≤ length out
+
+-- a block can be written at `place`, before another line
+pub record Blocking (rule sizes : List ℕ) (place : ℕ) (out : List ℕ) : Type 0 where
+  pub sized : Sized rule sizes
+  pub inScript : place + blockSize (tableIn rule) < mostLines
+  pub inOutput : lineLength * blockSize (tableIn rule) ≤ length out
 
 -- how far two starts in the table of starts are apart
 abbrev pub interval : ℕ

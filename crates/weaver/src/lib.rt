@@ -1,4 +1,5 @@
 // The weaver: each present of a bare script becomes a block that decides the rule.
+pub mod block;
 pub mod decision;
 pub mod line;
 pub mod update;
