@@ -22,7 +22,8 @@ use Rattle.spec.specs.Weaver.{sizeFrom, decideSize, decideFrom, decide}
 use Rattle.spec.proofs.RuleLaws.{InOrder, by-lower, both-lower, length-table, rule-out}
 use Rattle.spec.proofs.WeaverLaws.{decideSize-is, decide-at}
 use Rattle.rule.proofs.NodeLaws.{node-at, kind-3}
-use Rattle.weaver.specs.Laid.{tableIn, Sized, Deciding}
+use Rattle.layout.specs.Layout.{tableIn, Sized}
+use Rattle.weaver.specs.Laid.{Deciding}
 
 -- the measure falls
 pub falls-to : (j k t : ℕ) → k ≡ t → j < k → j < t

@@ -4,3 +4,6 @@ pub mod GrowthLaws
 pub mod SimpleLaws
 pub mod DecisionLaws
 pub mod UpdateLaws
+pub mod NotedLaws
+pub mod SeriesLaws
+pub mod BlockLaws

@@ -25,7 +25,8 @@ use Rattle.spec.proofs.WeaverLaws.{length-decide, length-setting}
 use Rattle.rule.proofs.NodeLaws.{node-at, kind-4, kind-5}
 use Rattle.weaver.specs.Written.{storedLine, over, written}
 use Rattle.weaver.specs.Parts.{leftLines, sinceEnd}
-use Rattle.weaver.specs.Laid.{tableIn, Sized, Deciding, Updating, Ending, leftIn, rightIn}
+use Rattle.layout.specs.Layout.{tableIn, Sized}
+use Rattle.weaver.specs.Laid.{Deciding, Updating, Ending, leftIn, rightIn}
 use Rattle.weaver.proofs.OverLaws.{words-append, stored-line}
 use Rattle.weaver.proofs.DecisionLaws.{size-some}
 

@@ -1,6 +1,6 @@
 use Rattle.weaver.proofs.DecisionLaws.{falls-to, order, lower, left-size, implies-size, implies-left, implies-right, implies-code, simple-room, simple-code, few}
 use Rattle.weaver.proofs.GrowthLaws.{add-first}
-use Rattle.weaver.specs.Laid.{tableIn}
+use Rattle.layout.specs.Layout.{tableIn}
 use Rattle.spec.proofs.WeaverLaws.{length-decide}
 use Rattle.spec.specs.Weaver.{decideSize, decide}
 use Rattle.spec.specs.Rule.{field}

@@ -3,7 +3,7 @@ use Rattle.weaver.proofs.UpdateLaws.{two-lines, deciding-in, deciding-s
 use Rattle.weaver.proofs.GrowthLaws.{add-first, add-second}
 use Rattle.weaver.proofs.OverLaws.{written-then, part-of}
 use Rattle.weaver.specs.Parts.{leftLines}
-use Rattle.weaver.specs.Laid.{tableIn}
+use Rattle.layout.specs.Layout.{tableIn}
 use Rattle.spec.proofs.WeaverLaws.{length-decide}
 use Rattle.spec.proofs.RuleLaws.{rule-out}
 use Rattle.spec.specs.Weaver.{line, decide, decideSize}

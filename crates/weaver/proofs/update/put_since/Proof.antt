@@ -1,7 +1,8 @@
 use Rattle.weaver.proofs.UpdateLaws.{since-size, left-size, right-size, since-right, since-end, since-code, length-end}
 use Rattle.weaver.proofs.OverLaws.{written-then, part-of}
 use Rattle.weaver.specs.Parts.{sinceEnd}
-use Rattle.weaver.specs.Laid.{tableIn, leftIn, rightIn}
+use Rattle.layout.specs.Layout.{tableIn}
+use Rattle.weaver.specs.Laid.{leftIn, rightIn}
 use Rattle.weaver.specs.Written.{written}
 use Rattle.spec.proofs.WeaverLaws.{length-decide}
 use Rattle.spec.proofs.RuleLaws.{rule-out}

@@ -2,7 +2,8 @@ use Rattle.weaver.proofs.UpdateLaws.{end-few, end-size, end-left, lengt
 use Rattle.weaver.proofs.GrowthLaws.{add-second}
 use Rattle.weaver.proofs.OverLaws.{written-then, part-of}
 use Rattle.weaver.specs.Parts.{leftLines, sinceEnd}
-use Rattle.weaver.specs.Laid.{tableIn, leftIn, rightIn}
+use Rattle.layout.specs.Layout.{tableIn}
+use Rattle.weaver.specs.Laid.{leftIn, rightIn}
 use Rattle.weaver.specs.Written.{written}
 use Rattle.spec.proofs.WeaverLaws.{length-setting}
 use Rattle.spec.proofs.RuleLaws.{rule-out}

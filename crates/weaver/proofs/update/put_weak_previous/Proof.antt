@@ -1,6 +1,7 @@
 use Rattle.weaver.proofs.UpdateLaws.{node-few, weak-lower, weak-left-size, weak-size, weak-left, weak-code}
 use Rattle.weaver.proofs.OverLaws.{written-then, part-of}
-use Rattle.weaver.specs.Laid.{tableIn, leftIn}
+use Rattle.layout.specs.Layout.{tableIn}
+use Rattle.weaver.specs.Laid.{leftIn}
 use Rattle.weaver.specs.Written.{written}
 use Rattle.spec.proofs.WeaverLaws.{length-decide, length-setting}
 use Rattle.spec.proofs.RuleLaws.{rule-out}

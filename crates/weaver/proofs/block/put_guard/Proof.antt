@@ -1,0 +1,106 @@
+use Rattle.weaver.proofs.BlockLaws.{guard-few, guard-size, guard-last, guard-lengths, guard-code}
+use Rattle.weaver.proofs.OverLaws.{written-then, part-of}
+use Rattle.weaver.specs.Parts.{presentLines}
+use Rattle.weaver.specs.Written.{written}
+use Rattle.spec.specs.Weaver.{decide}
+use Rattle.spec.specs.Rule.{isPast}
+use Rattle.spec.specs.Questions.{count}
+use Rattle.layout.specs.Layout.{tableIn}
+use lib.ListN.{length, getD}
+use Prim.Native.Nat.{_+_, _-_, _*_, _≤_, _<_}
+use mathlib.Core.List.{[], _∷_, _++_}
+use mathlib.Core.Bool.{Bool, true, false, cond}
+use borrow.Author.Needs.{needs}
+use Rattle.checker.specs.FactSets.{factsOf}
+use native.Mathlib.Omega.{arith}
+use mathlib.Core.Path.{_≡_, refl, sym, ap, ap₂, subst, _∙_}
+use Rattle.weaver.proofs.block.put_guard.Statement.{statement}
+use Rattle.weaver.proofs.block.put_guard.Tie as tie
+use Rattle.weaver.proofs.block.put_guard.Reads as reads
+use Rattle.weaver.proofs.block.put_guard.Lts as lts
+use Rattle.weaver.proofs.block.put_present.Reads as put-present-reads
+use Rattle.weaver.proofs.decision.put_decision.Reads as put-decision-reads
+
+-- src/block.rt:106:16
+sub-last : tie.Need-sub-last
+sub-last c = let f = guard-few (c .before .before .args .rule .now) (c .before .before .args .sizes .now) (c .before .before .args .place) (c .before .before .args .end) (c .before .before .args .out .now) (c .before .before .pre .0) in let z = guard-size (c .before .before .args .rule .now) (c .before .before .args .sizes .now) (c .before .before .args .place) (c .before .before .args .end) (c .before .before .args .out .now) (c .before .before .pre .0) in let s = c .before .before .pre .0 .inScript in let o = c .before .before .pre .0 .inOutput in f .0
+
+-- src/block.rt:107:13
+mul-n : tie.Need-mul-n
+mul-n c = search needs
+
+-- src/block.rt:107:13
+element-copy-out-n : tie.Need-element-copy-out-n
+element-copy-out-n c = let f = guard-few (c .before .before .args .rule .now) (c .before .before .args .sizes .now) (c .before .before .args .place) (c .before .before .args .end) (c .before .before .args .out .now) (c .before .before .pre .0) in let z = guard-size (c .before .before .args .rule .now) (c .before .before .args .sizes .now) (c .before .before .args .place) (c .before .before .args .end) (c .before .before .args .out .now) (c .before .before .pre .0) in let s = c .before .before .pre .0 .inScript in let o = c .before .before .pre .0 .inOutput in omega arith
+
+-- src/block.rt:107:13
+cast-n : tie.Need-cast-n
+cast-n c = let f = guard-few (c .before .before .before .args .rule .now) (c .before .before .before .args .sizes .now) (c .before .before .before .args .place) (c .before .before .before .args .end) (c .before .before .before .args .out .now) (c .before .before .before .pre .0) in let z = guard-size (c .before .before .before .args .rule .now) (c .before .before .before .args .sizes .now) (c .before .before .before .args .place) (c .before .before .before .args .end) (c .before .before .before .args .out .now) (c .before .before .before .pre .0) in let s = c .before .before .before .pre .0 .inScript in let o = c .before .before .before .pre .0 .inOutput in omega arith
+
+-- src/block.rt:108:44
+add-put-decision : tie.Need-add-put-decision
+add-put-decision c = let f = guard-few (c .before .before .before .args .rule .now) (c .before .before .before .args .sizes .now) (c .before .before .before .args .place) (c .before .before .before .args .end) (c .before .before .before .args .out .now) (c .before .before .before .pre .0) in let z = guard-size (c .before .before .before .args .rule .now) (c .before .before .before .args .sizes .now) (c .before .before .before .args .place) (c .before .before .before .args .end) (c .before .before .before .args .out .now) (c .before .before .before .pre .0) in let s = c .before .before .before .pre .0 .inScript in let o = c .before .before .before .pre .0 .inOutput in omega arith
+
+-- src/block.rt:108:5
+put-decision-requires : tie.Need-put-decision-requires
+put-decision-requires c κs = guard-last (c .before .before .before .before .args .rule .now) (c .before .before .before .before .args .sizes .now) (c .before .before .before .before .args .place) (c .before .before .before .before .args .end) (c .before .before .before .before .args .out .now) (c .before .before .before .before .pre .0)
+
+-- src/block.rt:109:41
+mul-put-present : tie.Need-mul-put-present
+mul-put-present c = let f = guard-few (c .before .before .before .before .before .before .before .args .rule .now) (c .before .before .before .before .before .before .before .args .sizes .now) (c .before .before .before .before .before .before .before .args .place) (c .before .before .before .before .before .before .before .args .end) (c .before .before .before .before .before .before .before .args .out .now) (c .before .before .before .before .before .before .before .pre .0) in let z = guard-size (c .before .before .before .before .before .before .before .args .rule .now) (c .before .before .before .before .before .before .before .args .sizes .now) (c .before .before .before .before .before .before .before .args .place) (c .before .before .before .before .before .before .before .args .end) (c .before .before .before .before .before .before .before .args .out .now) (c .before .before .before .before .before .before .before .pre .0) in let s = c .before .before .before .before .before .before .before .pre .0 .inScript in let o = c .before .before .before .before .before .before .before .pre .0 .inOutput in omega arith
+
+-- src/block.rt:109:32
+mul-put-present-2 : tie.Need-mul-put-present-2
+mul-put-present-2 c = let f = guard-few (c .before .before .before .before .before .before .before .args .rule .now) (c .before .before .before .before .before .before .before .args .sizes .now) (c .before .before .before .before .before .before .before .args .place) (c .before .before .before .before .before .before .before .args .end) (c .before .before .before .before .before .before .before .args .out .now) (c .before .before .before .before .before .before .before .pre .0) in let z = guard-size (c .before .before .before .before .before .before .before .args .rule .now) (c .before .before .before .before .before .before .before .args .sizes .now) (c .before .before .before .before .before .before .before .args .place) (c .before .before .before .before .before .before .before .args .end) (c .before .before .before .before .before .before .before .args .out .now) (c .before .before .before .before .before .before .before .pre .0) in let s = c .before .before .before .before .before .before .before .pre .0 .inScript in let o = c .before .before .before .before .before .before .before .pre .0 .inOutput in omega arith
+
+-- src/block.rt:109:32
+sub-put-present : tie.Need-sub-put-present
+sub-put-present c = let f = guard-few (c .before .before .before .before .before .before .before .args .rule .now) (c .before .before .before .before .before .before .before .args .sizes .now) (c .before .before .before .before .before .before .before .args .place) (c .before .before .before .before .before .before .before .args .end) (c .before .before .before .before .before .before .before .args .out .now) (c .before .before .before .before .before .before .before .pre .0) in let z = guard-size (c .before .before .before .before .before .before .before .args .rule .now) (c .before .before .before .before .before .before .before .args .sizes .now) (c .before .before .before .before .before .before .before .args .place) (c .before .before .before .before .before .before .before .args .end) (c .before .before .before .before .before .before .before .args .out .now) (c .before .before .before .before .before .before .before .pre .0) in let s = c .before .before .before .before .before .before .before .pre .0 .inScript in let o = c .before .before .before .before .before .before .before .pre .0 .inOutput in omega (arith, c .before .before .put-decision .kept .1 .1 .1 .1 .1 .1 .1 .0)
+
+-- src/block.rt:109:32
+part-put-present-start : tie.Need-part-put-present-start
+part-put-present-start c = let f = guard-few (c .before .before .before .before .before .before .before .args .rule .now) (c .before .before .before .before .before .before .before .args .sizes .now) (c .before .before .before .before .before .before .before .args .place) (c .before .before .before .before .before .before .before .args .end) (c .before .before .before .before .before .before .before .args .out .now) (c .before .before .before .before .before .before .before .pre .0) in let z = guard-size (c .before .before .before .before .before .before .before .args .rule .now) (c .before .before .before .before .before .before .before .args .sizes .now) (c .before .before .before .before .before .before .before .args .place) (c .before .before .before .before .before .before .before .args .end) (c .before .before .before .before .before .before .before .args .out .now) (c .before .before .before .before .before .before .before .pre .0) in let s = c .before .before .before .before .before .before .before .pre .0 .inScript in let o = c .before .before .before .before .before .before .before .pre .0 .inOutput in omega (arith, c .before .before .put-decision .kept .1 .1 .1 .1 .1 .1 .1 .0)
+
+-- src/block.rt:109:32
+part-put-present-end : tie.Need-part-put-present-end
+part-put-present-end c = search needs
+
+-- src/block.rt:109:5
+put-present-requires : tie.Need-put-present-requires
+put-present-requires c κs = let f = guard-few (c .before .before .before .before .before .before .before .before .args .rule .now) (c .before .before .before .before .before .before .before .before .args .sizes .now) (c .before .before .before .before .before .before .before .before .args .place) (c .before .before .before .before .before .before .before .before .args .end) (c .before .before .before .before .before .before .before .before .args .out .now) (c .before .before .before .before .before .before .before .before .pre .0) in let z = guard-size (c .before .before .before .before .before .before .before .before .args .rule .now) (c .before .before .before .before .before .before .before .before .args .sizes .now) (c .before .before .before .before .before .before .before .before .args .place) (c .before .before .before .before .before .before .before .before .args .end) (c .before .before .before .before .before .before .before .before .args .out .now) (c .before .before .before .before .before .before .before .before .pre .0) in let s = c .before .before .before .before .before .before .before .before .pre .0 .inScript in let o = c .before .before .before .before .before .before .before .before .pre .0 .inOutput in let p = part-of (8 * getD (c .before .before .before .before .before .before .before .before .args .sizes .now) (length (c .before .before .before .before .before .before .before .before .args .rule .now) - 1) 0) (c .before .before .before .put-decision .last .1 .1 .1 .1 .1 .1 .1 .0) (c .before .before .before .before .before .before .before .before .args .out .now) (c .before .before .before .put-decision .kept .1 .1 .1 .1 .1 .1 .1 .0) in (f .0, omega arith, c .before .before .before .before .before .before .before .before .pre .1, omega arith)
+
+-- src/block.rt:94:1
+same-length : tie.Need-same-length
+same-length c = search needs
+
+-- src/block.rt:94:1
+returns : tie.Need-returns
+returns c = let a = c .before .before .before .before .before .before .before .before .before .before .before .args in
+    let F = factsOf (a .x) in
+    let t = tableIn (a .rule .now) in
+    let last = length (a .rule .now) - 1 in
+    let n = getD (a .sizes .now) last 0 in
+    let z = guard-size (c .before .before .before .before .before .before .before .before .before .before .before .args .rule .now) (c .before .before .before .before .before .before .before .before .before .before .before .args .sizes .now) (c .before .before .before .before .before .before .before .before .before .before .before .args .place) (c .before .before .before .before .before .before .before .before .before .before .before .args .end) (c .before .before .before .before .before .before .before .before .before .before .before .args .out .now) (c .before .before .before .before .before .before .before .before .before .before .before .pre .0) in
+    let o = c .before .before .before .before .before .before .before .before .before .before .before .pre .0 .inOutput in
+    written-then (decide t last (a .place) (a .place + n) (a .end) F) (presentLines t F) n (1 + count isPast t) (8 * n) (a .out .now) _ _
+    (guard-lengths (c .before .before .before .before .before .before .before .before .before .before .before .args .rule .now) (c .before .before .before .before .before .before .before .before .before .before .before .args .sizes .now) (c .before .before .before .before .before .before .before .before .before .before .before .args .place) (c .before .before .before .before .before .before .before .before .before .before .before .args .end) (c .before .before .before .before .before .before .before .before .before .before .before .args .out .now) (c .before .before .before .before .before .before .before .before .before .before .before .pre .0) F .0) (guard-lengths (c .before .before .before .before .before .before .before .before .before .before .before .args .rule .now) (c .before .before .before .before .before .before .before .before .before .before .before .args .sizes .now) (c .before .before .before .before .before .before .before .before .before .before .before .args .place) (c .before .before .before .before .before .before .before .before .before .before .before .args .end) (c .before .before .before .before .before .before .before .before .before .before .before .args .out .now) (c .before .before .before .before .before .before .before .before .before .before .before .pre .0) F .1) refl (omega arith) (c .before .before .before .before .before .before .put-decision .ensures) (c .before .before .put-present .ensures)
+    ∙ ap (λ ls. written ls (a .out .now)) (guard-code (c .before .before .before .before .before .before .before .before .before .before .before .args .rule .now) (c .before .before .before .before .before .before .before .before .before .before .before .args .sizes .now) (c .before .before .before .before .before .before .before .before .before .before .before .args .place) (c .before .before .before .before .before .before .before .before .before .before .before .args .end) (c .before .before .before .before .before .before .before .before .before .before .before .args .out .now) (c .before .before .before .before .before .before .before .before .before .before .before .pre .0) F)
+
+pub put-guard-spec : {M : Type 1} → statement M
+put-guard-spec =
+    tie.close
+    (tie.spec
+    sub-last
+    mul-n
+    element-copy-out-n
+    cast-n
+    add-put-decision
+    put-decision-requires
+    mul-put-present
+    mul-put-present-2
+    sub-put-present
+    part-put-present-start
+    part-put-present-end
+    put-present-requires
+    same-length
+    returns)
