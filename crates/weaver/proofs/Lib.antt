@@ -7,3 +7,4 @@ pub mod UpdateLaws
 pub mod NotedLaws
 pub mod SeriesLaws
 pub mod BlockLaws
+pub mod LinesLaws

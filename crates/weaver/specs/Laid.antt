@@ -1,4 +1,5 @@
 -- What is settled before lines are written: that they are lines of a script, and that the output has space for them.
+use mathlib.Core.Path.{_≡_}
 use mathlib.Core.List.{List}
 use Prim.Native.Nat.{ℕ, _+_, _*_, _<_, _≤_}
 use lib.ListN.{length, getD}
@@ -7,7 +8,9 @@ use Rattle.spec.specs.Rule.{field, nodeAt, lastNode, isPast}
 use Rattle.spec.specs.Script.{mostLines}
 use Rattle.spec.specs.Check.{lineLength}
 use Rattle.spec.specs.Weaver.{decideSize, updateSize, updatesSize, blockSize}
-use Rattle.layout.specs.Layout.{tableIn, Sized}
+use Rattle.layout.specs.Layout.{tableIn, Sized, Started}
+use Rattle.sets.specs.Sets.{setOf}
+use Rattle.weaver.specs.Parts.{pastNodes}
 
 -- node k can be decided at `place` towards two lines, and the output has space for its code
 pub record Deciding (rule sizes : List ℕ) (k place onTrue onFalse : ℕ) (out : List ℕ) : Type 0 where
@@ -58,3 +61,9 @@ pub record Blocking (rule sizes : List ℕ) (place : ℕ) (out : List ℕ) : Typ
   pub sized : Sized rule sizes
   pub inScript : place + blockSize (tableIn rule) < mostLines
   pub inOutput : lineLength * blockSize (tableIn rule) ≤ length out
+
+-- the weaver takes the script, and its tables are made
+pub record Weaving (rule bare sizes starts : List ℕ) (size past : ℕ) : Type 0 where
+  pub sized : Sized rule sizes
+  pub started : Started rule bare starts size
+  pub pastIs : setOf past ≡ pastNodes (tableIn rule)
