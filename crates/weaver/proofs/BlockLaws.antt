@@ -6,10 +6,10 @@
 --     guard-last, guard-size, guard-code, guard-rest     deciding the last node, and the rest
 --     block-updatable, block-guarding, block-code        the block
 -- Assumes nothing.
-use mathlib.Core.Path.{_≡_, refl, sym, ap, ap₂, subst, _∙_}
+use mathlib.Core.Path.{_≡_, refl, sym, ap, ap₂, _∙_}
 use mathlib.Core.Bool.{Bool, true, false, cond}
 use mathlib.Core.List.{List, [], _∷_, _++_, append-assoc}
-use Prim.Native.Nat.{ℕ, zero, suc, _+_, _-_, _*_, _≤_, _<_}
+use Prim.Native.Nat.{ℕ, suc, _+_, _-_, _*_, _≤_, _<_}
 use native.Mathlib.Omega.{arith}
 use lib.ListN.{length, getD, length-append}
 use Rattle.spec.specs.Questions.{count}
@@ -20,7 +20,7 @@ use Rattle.spec.specs.Check.{Lines}
 use Rattle.spec.specs.Weaver.{line, doneFacts, keepFacts, decideSize, decide, update, updateSize, updates, updatesSize, keeps, blockSize, block}
 use Rattle.spec.proofs.RuleLaws.{InOrder, length-table, rule-out}
 use Rattle.spec.proofs.WeaverLaws.{pasts-count, length-decide, length-update, length-updates, length-keeps}
-use Rattle.layout.specs.Layout.{tableIn, Sized}
+use Rattle.layout.specs.Layout.{tableIn}
 use Rattle.weaver.specs.Laid.{Deciding, Updating, Updatable, Guarding, Blocking}
 use Rattle.weaver.specs.Written.{written}
 use Rattle.weaver.specs.Parts.{presentLines, guardLines}

@@ -4,19 +4,19 @@
 --     code-at                             bare line l
 --     present-line, other-line            what a line becomes
 -- Assumes nothing.
-use mathlib.Core.Path.{_≡_, refl, sym, ap, ap₂, subst, _∙_}
-use mathlib.Core.Bool.{Bool, true, false, cond}
+use mathlib.Core.Path.{_≡_, refl, sym, ap, ap₂, _∙_}
+use mathlib.Core.Bool.{true, false, cond}
 use mathlib.Core.List.{List, [], _∷_, _++_, append-assoc, append-nil, map}
-use Prim.Native.Nat.{ℕ, zero, suc, _+_, _-_, _*_, _≤_, _<_}
+use Prim.Native.Nat.{ℕ, zero, suc, _+_, _-_, _≤_, _<_}
 use native.Mathlib.Omega.{arith}
 use lib.ListN.{length, getD, drop, length-append, drop-of-length-le}
 use lib.Seq.{drop-cons}
 use Rattle.spec.specs.Rule.{Table}
 use Rattle.spec.specs.Script.{Instruction, halt, Code, instructionAt, instructionRead, isPresent, bareCode}
 use Rattle.spec.specs.Check.{Lines}
-use Rattle.spec.specs.Weaver.{line, bareFacts, block, blockSize, lineSize, startOf, retarget, weaveLine, weaveFrom, weave, wovenCount}
+use Rattle.spec.specs.Weaver.{line, bareFacts, block, blockSize, lineSize, startOf, retarget, weaveLine, weaveFrom, weave}
 use Rattle.spec.proofs.RuleLaws.{InOrder}
-use Rattle.spec.proofs.WeaverLaws.{start-zero, start-next, start-past, length-weaveLine}
+use Rattle.spec.proofs.WeaverLaws.{start-zero, start-next, length-weaveLine}
 use Rattle.weaver.proofs.SeriesLaws.{Series}
 
 unfoldable pub weaveUpTo : Table → Code → ℕ → Lines

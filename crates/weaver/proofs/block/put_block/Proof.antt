@@ -1,73 +1,55 @@
+-- `weaver::block::put_block` meets its contract: the past nodes' code, and the guard into the rest (`BlockLaws`). Assumes nothing.
+use mathlib.Core.Path.{_≡_, refl, sym, ap, _∙_}
+use Prim.Native.Nat.{_+_, _-_, _*_}
+use native.Mathlib.Omega.{arith}
+use lib.ListN.{length}
+use Rattle.spec.specs.Weaver.{doneFacts, decideSize, updates}
+use Rattle.spec.specs.Rule.{isPast, lastNode}
+use Rattle.spec.specs.Questions.{count}
+use Rattle.layout.specs.Layout.{tableIn}
+use Rattle.checker.specs.FactSets.{factsOf}
 use Rattle.weaver.proofs.BlockLaws.{block-updatable, block-few, block-room, block-guarding, guard-length, updates-length, block-fits, block-code}
 use Rattle.weaver.proofs.NotedLaws.{done-noted, all-below}
 use Rattle.weaver.proofs.OverLaws.{written-then, part-of}
 use Rattle.weaver.specs.Parts.{guardLines}
 use Rattle.weaver.specs.Written.{written}
-use Rattle.spec.specs.Weaver.{doneFacts, decideSize, updates}
-use Rattle.spec.specs.Rule.{isPast, lastNode}
-use Rattle.spec.specs.Questions.{count}
-use Rattle.layout.specs.Layout.{tableIn}
-use lib.ListN.{length, getD}
-use Prim.Native.Nat.{_+_, _-_, _*_, _≤_, _<_}
-use mathlib.Core.List.{[], _∷_, _++_}
-use mathlib.Core.Bool.{Bool, true, false, cond}
 use borrow.Author.Needs.{needs}
-use Rattle.checker.specs.FactSets.{factsOf}
-use native.Mathlib.Omega.{arith}
-use mathlib.Core.Path.{_≡_, refl, sym, ap, ap₂, subst, _∙_}
 use Rattle.weaver.proofs.block.put_block.Statement.{statement}
 use Rattle.weaver.proofs.block.put_block.Tie as tie
-use Rattle.weaver.proofs.block.put_block.Reads as reads
-use Rattle.weaver.proofs.block.put_block.Lts as lts
-use Rattle.weaver.proofs.block.noted.Reads as noted-reads
-use Rattle.weaver.proofs.block.put_guard.Reads as put-guard-reads
-use Rattle.weaver.proofs.block.put_updates.Reads as put-updates-reads
 
--- src/block.rt:124:9
 put-updates-requires : tie.Need-put-updates-requires
 put-updates-requires c κs = (block-updatable (c .before .before .before .args .rule .now) (c .before .before .before .args .sizes .now) (c .before .before .before .args .place) (c .before .before .before .args .out .now) (c .before .before .before .pre .0), c .before .before .before .pre .2)
 
--- src/block.rt:125:9
 noted-requires : tie.Need-noted-requires
 noted-requires c κs = search needs
 
--- src/block.rt:130:9
 add-put-guard : tie.Need-add-put-guard
 add-put-guard c = let f = block-few (c .before .before .before .before .before .before .before .args .rule .now) (c .before .before .before .before .before .before .before .args .sizes .now) (c .before .before .before .before .before .before .before .args .place) (c .before .before .before .before .before .before .before .args .out .now) (c .before .before .before .before .before .before .before .pre .0) in let r = block-room (c .before .before .before .before .before .before .before .args .rule .now) (c .before .before .before .before .before .before .before .args .sizes .now) (c .before .before .before .before .before .before .before .args .place) (c .before .before .before .before .before .before .before .args .out .now) (c .before .before .before .before .before .before .before .pre .0) in let e = c .before .before .before .put-updates .ensures .0 in let s = c .before .before .before .before .before .before .before .pre .0 .inScript in let z = c .before .before .before .before .before .before .before .pre .1 in omega arith
 
--- src/block.rt:131:9
 add-put-guard-2 : tie.Need-add-put-guard-2
 add-put-guard-2 c = search needs
 
--- src/block.rt:133:18
 mul-put-guard : tie.Need-mul-put-guard
 mul-put-guard c = let f = block-few (c .before .before .before .before .before .before .before .args .rule .now) (c .before .before .before .before .before .before .before .args .sizes .now) (c .before .before .before .before .before .before .before .args .place) (c .before .before .before .before .before .before .before .args .out .now) (c .before .before .before .before .before .before .before .pre .0) in let r = block-room (c .before .before .before .before .before .before .before .args .rule .now) (c .before .before .before .before .before .before .before .args .sizes .now) (c .before .before .before .before .before .before .before .args .place) (c .before .before .before .before .before .before .before .args .out .now) (c .before .before .before .before .before .before .before .pre .0) in let e = c .before .before .before .put-updates .ensures .0 in let s = c .before .before .before .before .before .before .before .pre .0 .inScript in let z = c .before .before .before .before .before .before .before .pre .1 in omega arith
 
--- src/block.rt:133:9
 mul-put-guard-2 : tie.Need-mul-put-guard-2
 mul-put-guard-2 c = let f = block-few (c .before .before .before .before .before .before .before .args .rule .now) (c .before .before .before .before .before .before .before .args .sizes .now) (c .before .before .before .before .before .before .before .args .place) (c .before .before .before .before .before .before .before .args .out .now) (c .before .before .before .before .before .before .before .pre .0) in let r = block-room (c .before .before .before .before .before .before .before .args .rule .now) (c .before .before .before .before .before .before .before .args .sizes .now) (c .before .before .before .before .before .before .before .args .place) (c .before .before .before .before .before .before .before .args .out .now) (c .before .before .before .before .before .before .before .pre .0) in let e = c .before .before .before .put-updates .ensures .0 in let s = c .before .before .before .before .before .before .before .pre .0 .inScript in let z = c .before .before .before .before .before .before .before .pre .1 in omega arith
 
--- src/block.rt:133:9
 sub-put-guard : tie.Need-sub-put-guard
 sub-put-guard c = let f = block-few (c .before .before .before .before .before .before .before .args .rule .now) (c .before .before .before .before .before .before .before .args .sizes .now) (c .before .before .before .before .before .before .before .args .place) (c .before .before .before .before .before .before .before .args .out .now) (c .before .before .before .before .before .before .before .pre .0) in let r = block-room (c .before .before .before .before .before .before .before .args .rule .now) (c .before .before .before .before .before .before .before .args .sizes .now) (c .before .before .before .before .before .before .before .args .place) (c .before .before .before .before .before .before .before .args .out .now) (c .before .before .before .before .before .before .before .pre .0) in let e = c .before .before .before .put-updates .ensures .0 in let s = c .before .before .before .before .before .before .before .pre .0 .inScript in let z = c .before .before .before .before .before .before .before .pre .1 in omega (arith, c .before .before .before .put-updates .kept .1 .1 .1 .1 .0)
 
--- src/block.rt:133:9
 part-put-guard-start : tie.Need-part-put-guard-start
 part-put-guard-start c = let f = block-few (c .before .before .before .before .before .before .before .args .rule .now) (c .before .before .before .before .before .before .before .args .sizes .now) (c .before .before .before .before .before .before .before .args .place) (c .before .before .before .before .before .before .before .args .out .now) (c .before .before .before .before .before .before .before .pre .0) in let r = block-room (c .before .before .before .before .before .before .before .args .rule .now) (c .before .before .before .before .before .before .before .args .sizes .now) (c .before .before .before .before .before .before .before .args .place) (c .before .before .before .before .before .before .before .args .out .now) (c .before .before .before .before .before .before .before .pre .0) in let e = c .before .before .before .put-updates .ensures .0 in let s = c .before .before .before .before .before .before .before .pre .0 .inScript in let z = c .before .before .before .before .before .before .before .pre .1 in omega (arith, c .before .before .before .put-updates .kept .1 .1 .1 .1 .0)
 
--- src/block.rt:133:9
 part-put-guard-end : tie.Need-part-put-guard-end
 part-put-guard-end c = search needs
 
--- src/block.rt:126:5
 put-guard-requires : tie.Need-put-guard-requires
 put-guard-requires c κs = (block-guarding (c .before .before .before .before .before .before .before .before .args .rule .now) (c .before .before .before .before .before .before .before .before .args .sizes .now) (c .before .before .before .before .before .before .before .before .args .place) (c .before .before .before .before .before .before .before .before .args .out .now) (c .before .before .before .before .before .before .before .before .pre .0) (c .before .before .before .before .put-updates .result) (c .before .before .before .before .before .before .before .before .args .size) _ (c .before .before .before .before .put-updates .ensures .0) (c .before .before .before .before .before .before .before .before .pre .1) (part-of _ (c .before .before .before .before .put-updates .last .1 .1 .1 .1 .0) (c .before .before .before .before .before .before .before .before .args .out .now) (c .before .before .before .before .put-updates .kept .1 .1 .1 .1 .0)), c .before .before .before .before .before .before .before .before .pre .2)
 
--- src/block.rt:113:1
 same-length : tie.Need-same-length
 same-length c = search needs
 
--- src/block.rt:113:1
 returns : tie.Need-returns
 returns c = let a = c .before .before .before .before .before .before .before .before .before .before .before .args in
     let t = tableIn (a .rule .now) in
