@@ -8,7 +8,7 @@
 --     target-inside                   a bare line's target is a line
 --     Marked, marked-start, marked-next, marked-keep, started     a table of every 16th start, as it is filled
 -- Not here: how many lines a block has (`SizeLaws.block-few`). Assumes nothing.
-use mathlib.Core.Path.{_≡_, refl, sym, ap, _∙_}
+use mathlib.Core.Path.{_≡_, refl, sym, ap, ap₂, _∙_}
 use mathlib.Core.Logic.{inl, inr}
 use mathlib.Core.Bool.{Bool, true, false, cond, not, _||_}
 use mathlib.Core.Option.{some}
@@ -46,6 +46,10 @@ length-bare bare = length-map bare instructionRead
 
 -- ---- starts
 
+pub step-few : (b : Bool) (size step : ℕ) → size ≤ mostLines → step ≡ cond b size 1 → step ≤ mostLines
+step-few true size step h e = omega arith
+step-few false size step h e = omega arith
+
 module _ (t : Table) where
   block-some : 0 < blockSize t
   unfolding blockSize
@@ -64,6 +68,13 @@ module _ (t : Table) where
   bare-next bare l h =
       ap (startOf t (bareCode bare)) (add-one l) ∙ start-next t (bareCode bare) l (rw (length-bare bare) h)
       ∙ ap (λ i. startOf t (bareCode bare) l + lineSize t i) (code-at bare l)
+
+  -- the same from a count of the line's size
+  pub start-step : (bare : List ℕ) (l n size step : ℕ) → l < length bare → size ≡ blockSize t
+      → step ≡ cond (isPresent (instructionRead (getD bare l 0))) size 1 → n ≡ startOf t (bareCode bare) l
+      → n + step ≡ startOf t (bareCode bare) (l + 1)
+  start-step bare l n size step h b e d =
+      ap₂ _+_ d (e ∙ ap (λ m. cond (isPresent (instructionRead (getD bare l 0))) m 1) b) ∙ sym (bare-next bare l h)
 
   pub start-grows : (code : Code) (l n : ℕ) → startOf t code l ≤ startOf t code (l + n)
   start-grows code l zero = let z : l + 0 ≡ l = omega arith in rw z (omega arith)
