@@ -120,11 +120,14 @@ module _ (rule bare : List ℕ) (weavable : checkWeaving form32 rule bare ≡ pa
   pub woven-few : wovenCount (tableIn rule) (bareCode bare) ≤ mostLines
   woven-few = weaving-out rule bare weavable .few
 
-  pub line-inside : (l : ℕ) → l < length bare → startOf (tableIn rule) (bareCode bare) l + lineSize (tableIn rule) (instructionRead (getD bare l 0)) ≤ mostLines
-  line-inside l h =
-      let next = bare-next (tableIn rule) bare l h in
+  pub next-few : (l : ℕ) → l < length bare → startOf (tableIn rule) (bareCode bare) (l + 1) ≤ mostLines
+  next-few l h =
       let last = start-before (tableIn rule) (bareCode bare) (l + 1) (length (bareCode bare)) (omega (arith, length-bare bare)) in
       omega (arith, woven-few)
+
+  pub line-inside : (l : ℕ) → l < length bare
+      → startOf (tableIn rule) (bareCode bare) l + lineSize (tableIn rule) (instructionRead (getD bare l 0)) ≤ mostLines
+  line-inside l h = omega (arith, bare-next (tableIn rule) bare l h, next-few l h)
 
   pub start-few : (l : ℕ) → l < length bare → startOf (tableIn rule) (bareCode bare) l < mostLines
   start-few l h = omega (arith, line-inside l h, line-some (tableIn rule) (instructionRead (getD bare l 0)))
