@@ -1,9 +1,10 @@
 -- A bare line's word with its target moved to where that line starts.
 --     fit-same, word-same           the fields that question 6 allows are those that the instruction read from them is stored in
+--     target-some, target-none      whether a word has a target, and which
 --     moved-word, unmoved-word      the word of an instruction with a target, which is moved, and of one without
 -- Assumes nothing.
 use mathlib.Core.Path.{_≡_, refl, sym, ap, _∙_}
-use mathlib.Core.Bool.{true, _&&_}
+use mathlib.Core.Bool.{Bool, true, false, _&&_}
 use mathlib.Core.Option.{some, none}
 use Prim.Native.Nat.{ℕ, _+_, _*_, _/_, _%_, _<_}
 use native.Mathlib.Omega.{arith}
@@ -12,6 +13,7 @@ use borrow.Author.Tests.{eqb-true}
 use Rattle.spec.specs.Logic.{equal, below}
 use Rattle.spec.specs.Script.{constant, copyOf, plus, nextInput, ifTest, ifKept, ifWork, Instruction, halt, write, branch, goto, present, setWork, keep, targetOf, Fields, fields, fieldsOf, wordOf, instructionOf, instructionRead, fieldsFor, wordFor, storedFit}
 use Rattle.spec.specs.Weaver.{retarget}
+use Rattle.script.specs.Lines.{targetWhere}
 use Rattle.spec.proofs.BoolLaws.{and-both}
 use Rattle.spec.proofs.StoredLaws.{word-fields}
 
@@ -51,6 +53,15 @@ target-moves to (goto m) l e = let z : m ≡ l = cc in rw z (omega arith)
 target-moves to present l e = let z : _≡_ {A = ℕ} 0 1 = cc in absurd (omega arith)
 target-moves to (setWork k b) l e = let z : _≡_ {A = ℕ} 0 1 = cc in absurd (omega arith)
 target-moves to (keep k) l e = let z : _≡_ {A = ℕ} 0 1 = cc in absurd (omega arith)
+
+-- a word's target, where it has one
+module _ (w : ℕ) (b : Bool) (e : targetWhere b (fieldsOf w .target) ≡ targetOf (instructionRead w)) where
+  pub target-some : b ≡ true → targetOf (instructionRead w) ≡ some (w % 1024)
+  unfolding fieldsOf
+  target-some d = sym e ∙ ap (λ x. targetWhere x (w % 1024)) d
+
+  pub target-none : b ≡ false → targetOf (instructionRead w) ≡ none
+  target-none d = sym e ∙ ap (λ x. targetWhere x (fieldsOf w .target)) d
 
 -- a word that question 6 allows
 module _ (w : ℕ) (fits : w < 4294967296) (fit : storedFit (fieldsOf w) ≡ true) where

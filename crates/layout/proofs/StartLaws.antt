@@ -22,13 +22,14 @@ use lib.Dec.{ltb, leb}
 use borrow.Author.Tests.{ltb-true, leb-true}
 use Rattle.spec.specs.Questions.{passed}
 use Rattle.spec.specs.Rule.{form32, Table, checkRule}
-use Rattle.spec.specs.Script.{Instruction, halt, write, branch, goto, present, setWork, keep, Code, instructionAt, isPresent, targetOf, goesOn, isLine, instructionOf, fieldsOf, instructionRead, bareStored, bareCode, mostLines, bareOpcode, followersExist, checkBare}
+use Rattle.spec.specs.Script.{Instruction, halt, write, branch, goto, present, setWork, keep, Code, instructionAt, isPresent, targetOf, goesOn, isLine, instructionOf, fieldsOf, instructionRead, bareStored, bareCode, mostLines, bareOpcode, storedFit, followersExist, checkBare}
 use Rattle.spec.specs.Weaver.{blockSize, lineSize, startOf, wovenCount, question12, checkWeaving}
 use Rattle.spec.proofs.BoolLaws.{and-both, not-either, le-or-lt}
 use Rattle.spec.proofs.QuestionLaws.{both-passed, once-out}
-use Rattle.spec.proofs.CodeLaws.{CodeOut, code-out}
+use Rattle.spec.proofs.CodeLaws.{CodeOut, code-out, allowed-out}
 use Rattle.spec.proofs.WeaverLaws.{start-zero, start-next, start-past}
 use Rattle.layout.specs.Layout.{tableIn, interval, Started}
+pub use Rattle.layout.proofs.SizeLaws.{block-few}
 
 -- ---- a bare line's instruction
 
@@ -164,6 +165,10 @@ module _ (rule bare : List ℕ) (weavable : checkWeaving form32 rule bare ≡ pa
       let (a, b) = and-both (isLine (length bare) (targetOf i)) (not (goesOn i) || ltb (suc l) (length bare)) (weaving-out rule bare weavable .code .follow l h) in
       ltb-true target (length bare) (ap (isLine (length bare)) (sym e) ∙ a)
 
+  -- question 6: unused fields are zero
+  pub word-fit : (l : ℕ) → l < length bare → storedFit (fieldsOf (getD bare l 0)) ≡ true
+  word-fit l h = allowed-out (tableIn rule) bareOpcode (bareStored bare) l (weaving-out rule bare weavable .code .allowed l h) .fit
+
 -- ---- a table of every 16th start
 
 -- it has the starts of the lines below n
@@ -186,3 +191,16 @@ module _ (t : Table) (code : Code) (starts : List ℕ) (l : ℕ) where
         | inl b ↦ let x : l % 16 ≡ 0 = omega arith in absurd (z x)
         | inr b ↦ m j b
       ]
+
+-- ---- the table filled
+
+module _ (rule bare starts : List ℕ) (size : ℕ) (s : Started rule bare starts size) where
+  pub size-few : size ≤ 257
+  size-few = omega (arith, s .blockIs, block-few rule (weaving-out rule bare (s .weavable) .accepted))
+
+  -- the start kept for a line, and that there is one
+  pub kept-start : (l : ℕ) → l < length bare → getD starts (l / 16) 0 ≡ startOf (tableIn rule) (bareCode bare) (16 * (l / 16))
+  kept-start l h = s .startIs (l / 16) (omega arith)
+
+  pub kept-few : (l : ℕ) → l < length bare → getD starts (l / 16) 0 < mostLines
+  kept-few l h = omega (arith, kept-start l h, start-few rule bare (s .weavable) (16 * (l / 16)) (omega arith))
