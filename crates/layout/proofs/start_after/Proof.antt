@@ -1,50 +1,57 @@
+-- `layout::start_after` meets its contract. The loop keeps: n is where line l starts, if `start` is where line `from` does. Assumes nothing.
+use mathlib.Core.Path.{_≡_, ap, _∙_}
+use Prim.Native.Nat.{_+_, _*_, _-_, _≤_, _<_}
+use lib.ListN.{length, getD}
+use native.Mathlib.Omega.{arith}
+use borrow.Author.Needs.{needs}
+use Rattle.spec.specs.Rule.{Table}
+use Rattle.spec.specs.Script.{isPresent, instructionRead, bareCode, mostLines}
+use Rattle.spec.specs.Weaver.{blockSize, startOf}
+use Rattle.layout.proofs.StartLaws.{step-few, start-step}
 use Rattle.layout.proofs.start_after.Statement.{statement}
 use Rattle.layout.proofs.start_after.Tie as tie
-use Rattle.layout.proofs.start_after.Reads as reads
-use Rattle.layout.proofs.start_after.Lts as lts
-use Rattle.script.proofs.line.is_present.Reads as is-present-reads
 
 abbrev Inv-loop : tie.InvT-loop
-Inv-loop bare size from start to n₀ l₀ n l = ?
+Inv-loop bare size from start to n₀ l₀ n l = (from ≤ l) × (l ≤ to) × (n + mostLines * from ≤ mostLines + mostLines * l)
+    × ((t : Table) → size ≡ blockSize t → start ≡ startOf t (bareCode bare) from → n ≡ startOf t (bareCode bare) l)
 
 abbrev μ-loop : tie.MeasureT-loop
-μ-loop bare size from start to n₀ l₀ n l = ?
+μ-loop bare size from start to n₀ l₀ n l = to - l
 
--- src/lib.rt:77:5
 loop-holds : tie.Need-loop-holds Inv-loop μ-loop
-loop-holds c = ?
+loop-holds c = let p = c .before .pre in (search needs, omega arith, omega arith, λ t b e. e)
 
--- src/lib.rt:78:28
-mul-is-present : tie.Need-mul-is-present Inv-loop μ-loop
-mul-is-present c = ?
+mul-line-size : tie.Need-mul-line-size Inv-loop μ-loop
+mul-line-size c = search needs
 
--- src/lib.rt:78:28
-shared-slice-read-is-present : tie.Need-shared-slice-read-is-present Inv-loop μ-loop
-shared-slice-read-is-present c = ?
+shared-slice-read-line-size : tie.Need-shared-slice-read-line-size Inv-loop μ-loop
+shared-slice-read-line-size c = search needs
 
--- src/lib.rt:78:17
-is-present-requires : tie.Need-is-present-requires Inv-loop μ-loop
-is-present-requires c κs = ?
+line-size-requires : tie.Need-line-size-requires Inv-loop μ-loop
+line-size-requires c κs = search needs
 
--- src/lib.rt:78:9
 add-n : tie.Need-add-n Inv-loop μ-loop
-add-n c = ?
+add-n c = let few = step-few (isPresent (instructionRead (getD (c .before .before .before .before .before .args .bare .now) (c .before .before .before .loop .l) 0))) (c .before .before .before .before .before .args .size) (c .line-size .result) (c .before .before .before .before .before .pre .3) (c .line-size .ensures) in omega arith
 
--- src/lib.rt:79:9
 add-l : tie.Need-add-l Inv-loop μ-loop
-add-l c = ?
+add-l c = search needs
 
--- src/lib.rt:77:5
 loop-less : tie.Need-loop-less Inv-loop μ-loop
-loop-less c = ?
+loop-less c = search needs
 
--- src/lib.rt:77:5
 loop-again : tie.Need-loop-again Inv-loop μ-loop
-loop-again c = ?
+loop-again c = let a = c .before .before .before .before .before .args in let l = c .before .before .before .loop in
+    let few = step-few (isPresent (instructionRead (getD (c .before .before .before .before .before .args .bare .now) (c .before .before .before .loop .l) 0))) (c .before .before .before .before .before .args .size) (c .line-size .result) (c .before .before .before .before .before .pre .3) (c .line-size .ensures) in
+    let inside : l .l < length (a .bare .now) = omega arith in (
+      omega arith,
+      omega arith,
+      omega arith,
+      λ t b e. start-step t (a .bare .now) (l .l) (l .n) (a .size) (c .line-size .result) inside b (c .line-size .ensures) (l .inv .3 t b e),
+    )
 
--- src/lib.rt:71:1
 returns : tie.Need-returns Inv-loop μ-loop
-returns c = ?
+returns c = let l = c .before .loop in let z : l .l ≡ c .before .before .before .args .to = omega arith in
+    λ t b e. l .inv .3 t b e ∙ ap (startOf t (bareCode (c .before .before .before .args .bare .now))) z
 
 pub start-after-spec : {M : Type 1} → statement M
 start-after-spec =
@@ -53,9 +60,9 @@ start-after-spec =
     Inv-loop
     μ-loop
     loop-holds
-    mul-is-present
-    shared-slice-read-is-present
-    is-present-requires
+    mul-line-size
+    shared-slice-read-line-size
+    line-size-requires
     add-n
     add-l
     loop-less
