@@ -49,7 +49,7 @@ loop-again c = let a = c .before .before .before .before .before .before .before
       search needs,
       length-set (l .sizes) (l .k) (c .node-size .result) ∙ l .inv .2,
       sized-next (tableIn (a .rule .now)) (l .sizes) (l .k) (c .node-size .result) inside
-      (c .node-size .ensures ∙ size-at (a .rule .now) (l .sizes) (l .k) (c .before .before .before .before .before .before .before .pre .0) (l .inv .3)) (l .inv .3),
+          (c .node-size .ensures ∙ size-at (a .rule .now) (l .sizes) (l .k) (c .before .before .before .before .before .before .before .pre .0) (l .inv .3)) (l .inv .3),
     )
 
 same-length : tie.Need-same-length Inv-loop μ-loop

@@ -63,15 +63,17 @@ loop-again c = let a = c .before .before .before .before .before .before .before
     let code = bareCode (a .bare .now) in
     let room : l .l / 16 < length (l .starts) = omega arith in
     let marks : (length (c .before .before .if1 .starts) ≡ length (a .starts .now)) × Marked t code (c .before .before .if1 .starts) (l .l + 1) =
-    ⊎-elim (λ w. (ap length (w .1) ∙ length-set (l .starts) (l .l / 16) (l .n) ∙ l .inv .2,
-    rw (w .1) (marked-next t code (l .starts) (l .l) (l .n) (w .0 .taken) room (l .inv .3) (l .inv .4))))
+    ⊎-elim (λ w. (
+      ap length (w .1) ∙ length-set (l .starts) (l .l / 16) (l .n) ∙ l .inv .2,
+      rw (w .1) (marked-next t code (l .starts) (l .l) (l .n) (w .0 .taken) room (l .inv .3) (l .inv .4)),
+    ))
     (λ w. (ap length (w .1) ∙ l .inv .2, rw (w .1) (marked-keep t code (l .starts) (l .l) (w .0 .left) (l .inv .4))))
     (c .before .before .if1 .came) in (
       search needs,
       search needs,
       marks .0,
       start-step (tableIn (a .rule .now)) (a .bare .now) (l .l) (l .n) (a .size) (c .line-size .result) (c .before .before .before .loop-test .taken) (c .before .before .before .before .before .before .before .before .pre .1)
-      (c .line-size .ensures) (l .inv .3),
+          (c .line-size .ensures) (l .inv .3),
       marks .1,
     )
 

@@ -21,9 +21,13 @@ cast-start-after c = let a = c .before .before .before .args in omega (arith, ke
 start-after-requires : tie.Need-start-after-requires
 start-after-requires c κs = let a = c .before .before .before .args in
     let s = c .before .before .before .pre .0 in
-    let h = c .before .before .before .pre .1 in
-    (omega arith, omega arith, bare-few (a .rule .now) (a .bare .now) (s .weavable), omega (arith, size-few (a .rule .now) (a .bare .now) (a .starts .now) (a .size) s),
-    omega (arith, kept-few (a .rule .now) (a .bare .now) (a .starts .now) (a .size) s (a .l) h))
+    let h = c .before .before .before .pre .1 in (
+      omega arith,
+      omega arith,
+      bare-few (a .rule .now) (a .bare .now) (s .weavable),
+      omega (arith, size-few (a .rule .now) (a .bare .now) (a .starts .now) (a .size) s),
+      omega (arith, kept-few (a .rule .now) (a .bare .now) (a .starts .now) (a .size) s (a .l) h),
+    )
 
 returns : tie.Need-returns
 returns c = let a = c .before .before .before .before .args in
