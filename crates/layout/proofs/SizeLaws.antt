@@ -47,7 +47,8 @@ size-at rule sizes k e s =
     ap (λ x. sizeFrom (λ j. getD sizes j 0) x 0) (sym (node-at rule k))
     ∙ from-lower (tableIn rule) sizes k 0 (nodeAt (tableIn rule) k) s (ordered .lower k) ∙ sym (decideSize-is (tableIn rule) ordered k)
 
-pub sized-next : (t : Table) (sizes : List ℕ) (k v : ℕ) → k < length sizes → v ≡ decideSize t k → SizedTo t sizes k → SizedTo t (set sizes k v) (k + 1)
+pub sized-next : (t : Table) (sizes : List ℕ) (k v : ℕ) → k < length sizes → v ≡ decideSize t k → SizedTo t sizes k
+    → SizedTo t (set sizes k v) (k + 1)
 sized-next t sizes k v h e s j l =
     elim (le-or-lt k j) [
       | inl a ↦ let z : j ≡ k = omega arith in rw z (getD-set-same sizes k v 0 h ∙ e)

@@ -18,7 +18,7 @@ use native.Mathlib.Omega.{arith}
 use native.Mathlib.Numerals.{add-one}
 use lib.ListN.{length, getD, set, length-map, List·getD-map}
 use lib.Seq.{getD-set-same, getD-set-other}
-use lib.Dec.{ltb, leb}
+use lib.Dec.{ltb}
 use borrow.Author.Tests.{ltb-true, leb-true}
 use Rattle.spec.specs.Questions.{passed}
 use Rattle.spec.specs.Rule.{form32, Table, checkRule}
@@ -27,7 +27,7 @@ use Rattle.spec.specs.Weaver.{blockSize, lineSize, startOf, wovenCount, questio
 use Rattle.spec.proofs.BoolLaws.{and-both, not-either, le-or-lt}
 use Rattle.spec.proofs.QuestionLaws.{both-passed, once-out}
 use Rattle.spec.proofs.CodeLaws.{CodeOut, code-out, allowed-out}
-use Rattle.spec.proofs.WeaverLaws.{start-zero, start-next, start-past}
+use Rattle.spec.proofs.WeaverLaws.{start-next, start-past}
 use Rattle.layout.specs.Layout.{tableIn, interval, Started}
 pub use Rattle.layout.proofs.SizeLaws.{block-few}
 
@@ -62,6 +62,10 @@ module _ (t : Table) where
 
   pub line-some : (i : Instruction) → 0 < lineSize t i
   line-some i = size-some (isPresent i)
+
+  -- the woven script ends where the line after the last would start
+  pub start-end : (bare : List ℕ) → startOf t (bareCode bare) (length bare) ≡ wovenCount t (bareCode bare)
+  start-end bare = ap (startOf t (bareCode bare)) (sym (length-bare bare))
 
   -- the start of the line after a bare line
   pub bare-next : (bare : List ℕ) (l : ℕ) → l < length bare
@@ -146,7 +150,8 @@ module _ (rule bare : List ℕ) (weavable : checkWeaving form32 rule bare ≡ pa
   unfolding followersExist
   present-next l h e =
       let i = instructionRead (getD bare l 0) in
-      let (a, b) = and-both (isLine (length bare) (targetOf i)) (not (goesOn i) || ltb (suc l) (length bare)) (weaving-out rule bare weavable .code .follow l h) in
+      let follow = weaving-out rule bare weavable .code .follow l h in
+      let (a, b) = and-both (isLine (length bare) (targetOf i)) (not (goesOn i) || ltb (suc l) (length bare)) follow in
       let next : suc l < length bare = ltb-true (suc l) (length bare) (not-either (goesOn i) (ltb (suc l) (length bare)) b (present-goes i e)) in
       omega arith
 
@@ -162,7 +167,8 @@ module _ (rule bare : List ℕ) (weavable : checkWeaving form32 rule bare ≡ pa
   unfolding followersExist
   target-inside l target h e =
       let i = instructionRead (getD bare l 0) in
-      let (a, b) = and-both (isLine (length bare) (targetOf i)) (not (goesOn i) || ltb (suc l) (length bare)) (weaving-out rule bare weavable .code .follow l h) in
+      let follow = weaving-out rule bare weavable .code .follow l h in
+      let (a, b) = and-both (isLine (length bare) (targetOf i)) (not (goesOn i) || ltb (suc l) (length bare)) follow in
       ltb-true target (length bare) (ap (isLine (length bare)) (sym e) ∙ a)
 
   -- question 6: unused fields are zero

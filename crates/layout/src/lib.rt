@@ -79,11 +79,7 @@ pub fn block_size(rule: &[u32]) -> usize
 fn line_size(word: u32, size: usize) -> usize
     ensures { λ r. ⌜ r ≡ cond (isPresent (instructionRead word)) size 1 ⌝ }
 {
-    if is_present(word) {
-        size
-    } else {
-        1
-    }
+    if is_present(word) { size } else { 1 }
 }
 
 // Where bare line `to` starts, from where line `from` does; a block has `size` lines.

@@ -31,7 +31,11 @@ line-size-requires : tie.Need-line-size-requires Inv-loop μ-loop
 line-size-requires c κs = search needs
 
 add-n : tie.Need-add-n Inv-loop μ-loop
-add-n c = let few = step-few (isPresent (instructionRead (getD (c .before .before .before .before .before .args .bare .now) (c .before .before .before .loop .l) 0))) (c .before .before .before .before .before .args .size) (c .line-size .result) (c .before .before .before .before .before .pre .3) (c .line-size .ensures) in omega arith
+add-n c = let start = c .before .before .before .before .before in
+    let a = start .args in
+    let l = c .before .before .before .loop in
+    let few = step-few (isPresent (instructionRead (getD (a .bare .now) (l .l) 0))) (a .size) (c .line-size .result) (start .pre .3) (c .line-size .ensures) in
+    omega arith
 
 add-l : tie.Need-add-l Inv-loop μ-loop
 add-l c = search needs
@@ -40,8 +44,10 @@ loop-less : tie.Need-loop-less Inv-loop μ-loop
 loop-less c = search needs
 
 loop-again : tie.Need-loop-again Inv-loop μ-loop
-loop-again c = let a = c .before .before .before .before .before .args in let l = c .before .before .before .loop in
-    let few = step-few (isPresent (instructionRead (getD (c .before .before .before .before .before .args .bare .now) (c .before .before .before .loop .l) 0))) (c .before .before .before .before .before .args .size) (c .line-size .result) (c .before .before .before .before .before .pre .3) (c .line-size .ensures) in
+loop-again c = let start = c .before .before .before .before .before in
+    let a = start .args in
+    let l = c .before .before .before .loop in
+    let few = step-few (isPresent (instructionRead (getD (a .bare .now) (l .l) 0))) (a .size) (c .line-size .result) (start .pre .3) (c .line-size .ensures) in
     let inside : l .l < length (a .bare .now) = omega arith in (
       omega arith,
       omega arith,
@@ -50,8 +56,10 @@ loop-again c = let a = c .before .before .before .before .before .args in let l 
     )
 
 returns : tie.Need-returns Inv-loop μ-loop
-returns c = let l = c .before .loop in let z : l .l ≡ c .before .before .before .args .to = omega arith in
-    λ t b e. l .inv .3 t b e ∙ ap (startOf t (bareCode (c .before .before .before .args .bare .now))) z
+returns c = let a = c .before .before .before .args in
+    let l = c .before .loop in
+    let z : l .l ≡ a .to = omega arith in
+    λ t b e. l .inv .3 t b e ∙ ap (startOf t (bareCode (a .bare .now))) z
 
 pub start-after-spec : {M : Type 1} → statement M
 start-after-spec =
