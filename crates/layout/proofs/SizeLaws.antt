@@ -1,9 +1,9 @@
 -- How many lines deciding a node takes, from a table of the sizes for lower nodes, and how many a block has.
---     size-at                         a node's size, from those kept for lower nodes
---     sized-next                      so the table grows by a node
---     decide-few                      deciding a node takes no more lines than a block has: it is written in one
---     lines-next, lines-all           a block's lines, counted node by node
---     block-few, node-few             a block of an accepted rule has at most 257 lines, and so deciding a node takes no more
+--     SizedTo, size-at, sized-next       a table of sizes as it is filled: the next node's size, from those kept for lower nodes
+--     decide-few                         deciding a node takes no more lines than a block has: it is part of one
+--     linesTo, lines-none, lines-next    a block's lines, counted node by node,
+--     lines-all, lines-few               are those of the document's formula, and at most 8 a node
+--     nodes-few, block-lines-are, block-few, node-few     an accepted rule has at most 32 nodes, so a block and a decision at most 257 lines
 -- Assumes nothing.
 use mathlib.Core.Path.{_≡_, refl, sym, ap, ap₂, _∙_}
 use mathlib.Core.Logic.{_⊎_, inl, inr}

@@ -1,13 +1,17 @@
 -- Where bare lines start in a script that the weaver takes (`specs/Layout.antt`), and that woven lines are few.
---     WeavingOut, weaving-out         what a yes to questions 1 to 7 and 12 says
 --     code-at, length-bare            a bare line's instruction, and how many there are
---     line-some, start-grows          a bare line takes at least a line, and later ones start no earlier
+--     step-few, line-some             a bare line becomes at most 1,024 lines if a block has no more, and at least one
+--     start-end, bare-next, start-step     where the line after the last starts, and the line after a bare line
+--     start-grows, start-before       later lines start no earlier
 --     start-inside                    what a bare line becomes ends inside the woven script
---     woven-few, line-inside, start-few, next-few     which has at most 1,024 lines: so a line ends, starts and goes on inside
+--     WeavingOut, weaving-out         what a yes to questions 1 to 7 and 12 says
+--     bare-few, woven-few             so bare and woven script have at most 1,024 lines,
+--     next-few, line-inside, start-few     and in them each bare line's lines end, and start
 --     present-next, present-inside    after a present there is a line, so its block ends before the last woven line
---     target-inside                   a bare line's target is a line
---     Marked, marked-start, marked-next, marked-keep, started     a table of every 16th start, as it is filled
--- Not here: how many lines a block has (`SizeLaws.block-few`). Assumes nothing.
+--     target-inside, word-fit         a bare line's target is a line; its unused fields are zero
+--     Marked, marked-next, marked-keep     a table of every 16th start, as it is filled
+--     block-few, size-few, kept-start, kept-few     a block has at most 257 lines; what a filled table keeps
+-- Not here: how many lines deciding a node takes (`SizeLaws`). Assumes nothing.
 use mathlib.Core.Path.{_≡_, refl, sym, ap, ap₂, _∙_}
 use mathlib.Core.Logic.{inl, inr}
 use mathlib.Core.Bool.{Bool, true, false, cond, not, _||_}
@@ -44,6 +48,15 @@ code-at bare l = ap (getD (map instructionRead bare) l) (sym no-word) ∙ List·
 pub length-bare : (bare : List ℕ) → length (bareCode bare) ≡ length bare
 unfolding bareCode
 length-bare bare = length-map bare instructionRead
+
+present-goes : (i : Instruction) → isPresent i ≡ true → goesOn i ≡ true
+present-goes halt e = e
+present-goes (write r v) e = refl
+present-goes (branch q l) e = refl
+present-goes (goto l) e = e
+present-goes present e = refl
+present-goes (setWork k b) e = refl
+present-goes (keep k) e = refl
 
 -- ---- starts
 
@@ -137,22 +150,14 @@ module _ (rule bare : List ℕ) (weavable : checkWeaving form32 rule bare ≡ pa
   pub start-few : (l : ℕ) → l < length bare → startOf (tableIn rule) (bareCode bare) l < mostLines
   start-few l h = omega (arith, line-inside l h, line-some (tableIn rule) (instructionRead (getD bare l 0)))
 
-  present-goes : (i : Instruction) → isPresent i ≡ true → goesOn i ≡ true
-  present-goes halt e = e
-  present-goes (write r v) e = refl
-  present-goes (branch q l) e = refl
-  present-goes (goto l) e = e
-  present-goes present e = refl
-  present-goes (setWork k b) e = refl
-  present-goes (keep k) e = refl
-
   pub present-next : (l : ℕ) → l < length bare → isPresent (instructionRead (getD bare l 0)) ≡ true → l + 1 < length bare
   unfolding followersExist
   present-next l h e =
       let i = instructionRead (getD bare l 0) in
       let follow = weaving-out rule bare weavable .code .follow l h in
       let (a, b) = and-both (isLine (length bare) (targetOf i)) (not (goesOn i) || ltb (suc l) (length bare)) follow in
-      let next : suc l < length bare = ltb-true (suc l) (length bare) (not-either (goesOn i) (ltb (suc l) (length bare)) b (present-goes i e)) in
+      let next : suc l < length bare =
+      ltb-true (suc l) (length bare) (not-either (goesOn i) (ltb (suc l) (length bare)) b (present-goes i e)) in
       omega arith
 
   pub present-inside : (l : ℕ) → l < length bare → isPresent (instructionRead (getD bare l 0)) ≡ true
