@@ -1,0 +1,3 @@
+-- `StartLaws`: the fresh start. `ActLaws`: what an instruction does, by opcode.
+pub mod StartLaws
+pub mod ActLaws

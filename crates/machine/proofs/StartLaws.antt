@@ -1,0 +1,48 @@
+-- The fresh start (`specs/Machine.antt` of crate spec).
+--     fresh-is     a machine whose kept bits are the first priors of at most 32 nodes is the fresh start
+-- Assumes nothing.
+use mathlib.Core.Path.{_≡_, refl, sym, ap, ap₂, fun-ext, _∙_}
+use mathlib.Core.Logic.{_⊎_, inl, inr}
+use mathlib.Core.Bool.{Bool, false}
+use mathlib.Core.List.{List, []}
+use Prim.Native.Nat.{ℕ, zero, suc, _≤_, _<_}
+use native.Mathlib.Omega.{arith}
+use lib.ListN.{length, take, length-take, List·getD-eq-default}
+use lib.Dec.{ltb}
+use borrow.Author.Tests.{ne-eqb}
+use Rattle.spec.specs.Logic.{State}
+use Rattle.spec.specs.Rule.{falseNode, form32, Table, tableOf, isWeakPrevious, prior}
+use Rattle.spec.specs.Machine.{machine, zeros, fresh, tableWithin, freshOf}
+use Rattle.spec.proofs.BoolLaws.{le-or-lt}
+use Rattle.spec.proofs.RuleLaws.{length-table}
+use Rattle.spec.proofs.ValueLaws.{prior-first}
+use Rattle.sets.specs.Sets.{setOf, adding}
+use Rattle.sets.proofs.SetLaws.{empty-is}
+use Rattle.rule.specs.Monitor.{firstBelow, firstPriors}
+use Rattle.rule.proofs.MonitorLaws.{first-is}
+
+none-above : (t : Table) (n j : ℕ) → n ≤ j → firstBelow n t j ≡ false
+unfolding firstBelow adding
+none-above t zero j h = refl
+none-above t (suc n) j h = rw (none-above t n j (omega arith), ne-eqb j n (λ e. omega arith))
+
+-- every kept bit its prior, also of nodes that are none
+pub first-priors : (t : Table) → length t ≤ 64 → (s : State) → firstPriors t ≡ (λ k. prior t [] s k)
+unfolding firstPriors
+first-priors t few s =
+    fun-ext (λ k. elim (le-or-lt (length t) k) [
+      | inl h ↦ none-above t (length t) k h ∙ sym (prior-first t s k ∙ ap isWeakPrevious (List·getD-eq-default t falseNode h))
+      | inr h ↦ first-is t few k h ∙ sym (prior-first t s k)
+    ])
+
+within-few : (rule : List ℕ) → length (tableWithin form32 rule) ≤ 32
+unfolding form32
+within-few rule = omega (arith, length-table form32 (take 32 rule), length-take 32 rule)
+
+pub fresh-is : (rule ws : List ℕ) (kept : ℕ) → setOf kept ≡ firstPriors (tableOf form32 ws) → ws ≡ take 32 rule → (lent : List ℕ)
+    → machine 0 zeros (setOf kept) (setOf 0) 0 0 lent ≡ freshOf form32 rule lent
+unfolding freshOf fresh form32
+fresh-is rule ws kept e d lent =
+    let few = within-few rule in
+    let p = e ∙ ap (λ (x : List ℕ). firstPriors (tableOf form32 x)) d ∙ first-priors (tableWithin form32 rule) (omega arith) zeros in
+    ap₂ (λ (k w : ℕ → Bool). machine 0 zeros k w 0 0 lent) p empty-is
