@@ -44,4 +44,52 @@ impl Machine {
             reads: 0,
         }
     }
+
+    // One step of an annotated script, from a state to the next. A line that is not there, a word that question 6 does not allow,
+    // and what would stop a run as halted, dry or full change nothing.
+    pub fn step(self, rule: &[u32], script: &[u32], inputs: &[u16], history: &mut [u16]) -> Machine
+        ensures { λ r. ⌜ machineOf r (now (history .exit)) ≡ stepOf form32 (now (rule .entry)) (now (script .entry)) (now (inputs .entry)) (machineOf self (now (history .entry))) ⌝ }
+    {
+        let line = self.line;
+        if !can_run(rule, script, line) {
+            return self;
+        }
+        let mut registers = self.registers;
+        let core = advance(&mut registers, self.core(), script[8 * line], inputs, history);
+        Machine {
+            registers,
+            kept: core.kept,
+            work: core.work,
+            line: core.line,
+            presentations: core.presentations,
+            reads: core.reads,
+        }
+    }
+
+    fn core(self) -> Core
+        ensures { λ r. ⌜ r ≡ coreOf self ⌝ }
+    {
+        Core {
+            kept: self.kept,
+            work: self.work,
+            line: self.line,
+            presentations: self.presentations,
+            reads: self.reads,
+        }
+    }
+}
+
+// Whether line l is there and question 6 allows it, for the first 32 nodes.
+fn can_run(rule: &[u32], script: &[u32], l: usize) -> bool
+    ensures { λ r. ⌜ r ≡ canRun form32 (now (rule .entry)) (now (script .entry)) l ⌝ }
+{
+    if script.len() / 8 <= l {
+        return false;
+    }
+    let word = script[8 * l];
+    if rule.len() <= 32 {
+        word_allowed(rule, word, 12)
+    } else {
+        word_allowed(&rule[..32], word, 12)
+    }
 }

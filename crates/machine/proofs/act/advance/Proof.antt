@@ -1,3 +1,13 @@
+-- `machine::act::advance` meets its contract: a law of `ActLaws` for each return. Assumes nothing.
+use mathlib.Core.Path.{sym, _∙_}
+use borrow.Author.Tests.{eq-eqb, ne-eqb, lt-ltb, le-ltb}
+use Rattle.spec.specs.Logic.{passes}
+use Rattle.spec.specs.Script.{fieldsOf}
+use Rattle.spec.specs.Machine.{meets}
+use Rattle.spec.proofs.OpcodeLaws.{opcode-0, opcode-5, opcode-6, opcode-10, opcode-11, opcode-high}
+use Rattle.script.proofs.LineLaws.{beyond}
+use Rattle.machine.specs.Machines.{machineAt}
+use Rattle.machine.proofs.ActLaws.{held-copy, held-set, held-keep, act-halt, act-constant, act-copy, act-sum, act-dry, act-input, act-target, act-next, act-go, act-full, act-present, act-set, act-keep}
 use borrow.Author.Needs.{needs}
 use Rattle.machine.proofs.act.advance.Statement.{statement}
 use Rattle.machine.proofs.act.advance.Tie as tie
@@ -26,7 +36,11 @@ add-next c = search needs
 
 -- src/act.rt:70:13
 returns : tie.Need-returns
-returns c = ?
+unfolding fieldsOf
+returns c = 
+    let a = c .before .before .before .before .args in
+    let m = machineAt (a .registers .now) (a .core) (a .history .now) in
+    sym (act-halt (a .word) (a .inputs .now) m (opcode-0 (fieldsOf (a .word)) (c .match .keys1)))
 
 -- src/act.rt:73:28
 cast-registers : tie.Need-cast-registers
@@ -46,7 +60,8 @@ mul-registers-2 c = search needs
 
 -- src/act.rt:76:28
 element-copy-out-registers : tie.Need-element-copy-out-registers
-element-copy-out-registers c = ?
+unfolding fieldsOf
+element-copy-out-registers c = let a = c .before .before .before .before .args in held-copy (a .word) (c .before .before .before .before .pre .1) (c .match .keys3)
 
 -- src/act.rt:76:13
 mul-registers-3 : tie.Need-mul-registers-3
@@ -82,7 +97,11 @@ element-write-registers-3 c = search needs
 
 -- src/act.rt:84:17
 returns-2 : tie.Need-returns-2
-returns-2 c = ?
+unfolding fieldsOf
+returns-2 c = 
+    let a = c .before .before .before .before .before .args in
+    let m = machineAt (a .registers .now) (a .core) (a .history .now) in
+    sym (act-dry (a .word) (a .inputs .now) m (c .before .match .keys5) (c .if1 .taken))
 
 -- src/act.rt:86:28
 mul-registers-5 : tie.Need-mul-registers-5
@@ -118,7 +137,11 @@ cast-if2 c = search needs
 
 -- src/act.rt:92:17
 returns-3 : tie.Need-returns-3
-returns-3 c = ?
+unfolding fieldsOf meets passes
+returns-3 c = 
+    let a = c .before .before .before .before .before .before .args in
+    let m = machineAt (a .registers .now) (a .core) (a .history .now) in
+    sym (act-target (a .word) (a .inputs .now) m _ (opcode-5 (fieldsOf (a .word)) (c .before .before .match .keys6)) (eq-eqb _ _ (c .if2 .taken)))
 
 -- src/act.rt:96:16
 mul-if3 : tie.Need-mul-if3
@@ -134,15 +157,27 @@ cast-if3 c = search needs
 
 -- src/act.rt:98:17
 returns-4 : tie.Need-returns-4
-returns-4 c = ?
+unfolding fieldsOf meets passes
+returns-4 c = 
+    let a = c .before .before .before .before .before .before .args in
+    let m = machineAt (a .registers .now) (a .core) (a .history .now) in
+    sym (act-target (a .word) (a .inputs .now) m _ (opcode-6 (fieldsOf (a .word)) (c .before .before .match .keys7)) (lt-ltb _ _ (c .if3 .taken)))
 
 -- src/act.rt:103:13
 returns-5 : tie.Need-returns-5
-returns-5 c = ?
+unfolding fieldsOf
+returns-5 c = 
+    let a = c .before .before .before .before .args in
+    let m = machineAt (a .registers .now) (a .core) (a .history .now) in
+    sym (act-go (a .word) (a .inputs .now) m (c .match .keys8))
 
 -- src/act.rt:108:17
 returns-6 : tie.Need-returns-6
-returns-6 c = ?
+unfolding fieldsOf
+returns-6 c = 
+    let a = c .before .before .before .before .before .args in
+    let m = machineAt (a .registers .now) (a .core) (a .history .now) in
+    sym (act-full (a .word) (a .inputs .now) m (c .before .match .keys9) (c .if4 .taken))
 
 -- src/act.rt:110:13
 store-requires : tie.Need-store-requires
@@ -154,7 +189,8 @@ add-core-2 c = search needs
 
 -- src/act.rt:114:13
 set-bit-requires : tie.Need-set-bit-requires
-set-bit-requires c κs = ?
+unfolding fieldsOf
+set-bit-requires c κs = let a = c .before .before .before .before .args in held-set (a .word) (c .before .before .before .before .pre .1) (c .match .keys10)
 
 -- src/act.rt:117:16
 has-requires : tie.Need-has-requires
@@ -162,7 +198,11 @@ has-requires c κs = search needs
 
 -- src/act.rt:119:17
 returns-7 : tie.Need-returns-7
-returns-7 c = ?
+unfolding fieldsOf meets
+returns-7 c = 
+    let a = c .before .before .before .before .before .before .args in
+    let m = machineAt (a .registers .now) (a .core) (a .history .now) in
+    sym (act-target (a .word) (a .inputs .now) m _ (opcode-10 (fieldsOf (a .word)) (c .before .before .match .keys11)) (sym (c .before .has .ensures) ∙ c .if5 .taken))
 
 -- src/act.rt:123:16
 has-requires-2 : tie.Need-has-requires-2
@@ -170,7 +210,11 @@ has-requires-2 c κs = search needs
 
 -- src/act.rt:125:17
 returns-8 : tie.Need-returns-8
-returns-8 c = ?
+unfolding fieldsOf meets
+returns-8 c = 
+    let a = c .before .before .before .before .before .before .args in
+    let m = machineAt (a .registers .now) (a .core) (a .history .now) in
+    sym (act-target (a .word) (a .inputs .now) m _ (opcode-11 (fieldsOf (a .word)) (c .before .before .match .keys12)) (sym (c .before .has2 .ensures) ∙ c .if6 .taken))
 
 -- src/act.rt:129:47
 has-requires-3 : tie.Need-has-requires-3
@@ -178,35 +222,64 @@ has-requires-3 c κs = search needs
 
 -- src/act.rt:129:13
 set-bit-requires-2 : tie.Need-set-bit-requires-2
-set-bit-requires-2 c κs = ?
+unfolding fieldsOf
+set-bit-requires-2 c κs = let a = c .before .before .before .before .before .args in held-keep (a .word) (c .before .before .before .before .before .pre .1) (c .before .match .keys13)
 
 -- src/act.rt:132:13
 returns-9 : tie.Need-returns-9
-returns-9 c = ?
+unfolding fieldsOf
+returns-9 c = 
+    let a = c .before .before .before .before .args in
+    let m = machineAt (a .registers .now) (a .core) (a .history .now) in
+    sym (act-halt (a .word) (a .inputs .now) m (opcode-high (fieldsOf (a .word)) (beyond _ (c .match .rest))))
 
 -- src/act.rt:53:1
 returns-10 : tie.Need-returns-10
-returns-10 c = ?
+unfolding fieldsOf
+returns-10 c = 
+    let a = c .before .before .before .before .args in
+    let m = machineAt (a .registers .now) (a .core) (a .history .now) in
+    sym (act-constant (a .word) (a .inputs .now) m (c .match .keys2))
 
 -- src/act.rt:53:1
 returns-11 : tie.Need-returns-11
-returns-11 c = ?
+unfolding fieldsOf
+returns-11 c = 
+    let a = c .before .before .before .before .before .args in
+    let m = machineAt (a .registers .now) (a .core) (a .history .now) in
+    sym (act-copy (a .word) (a .inputs .now) m (c .before .match .keys3))
 
 -- src/act.rt:53:1
 returns-12 : tie.Need-returns-12
-returns-12 c = ?
+unfolding fieldsOf
+returns-12 c = 
+    let a = c .before .before .before .before .before .before .args in
+    let m = machineAt (a .registers .now) (a .core) (a .history .now) in
+    rw (c .sum .ensures) (sym (act-sum (a .word) (a .inputs .now) m (c .before .before .match .keys4)))
 
 -- src/act.rt:53:1
 returns-13 : tie.Need-returns-13
-returns-13 c = ?
+unfolding fieldsOf
+returns-13 c = 
+    let a = c .before .before .before .before .before .before .args in
+    let m = machineAt (a .registers .now) (a .core) (a .history .now) in
+    sym (act-input (a .word) (a .inputs .now) m (c .before .before .match .keys5) (c .before .if1 .left))
 
 -- src/act.rt:53:1
 returns-14 : tie.Need-returns-14
-returns-14 c = ?
+unfolding fieldsOf meets passes
+returns-14 c = 
+    let a = c .before .before .before .before .before .before .args in
+    let m = machineAt (a .registers .now) (a .core) (a .history .now) in
+    sym (act-next (a .word) (a .inputs .now) m _ (opcode-5 (fieldsOf (a .word)) (c .before .before .match .keys6)) (ne-eqb _ _ (c .if2 .left)))
 
 -- src/act.rt:53:1
 returns-15 : tie.Need-returns-15
-returns-15 c = ?
+unfolding fieldsOf meets passes
+returns-15 c = 
+    let a = c .before .before .before .before .before .before .args in
+    let m = machineAt (a .registers .now) (a .core) (a .history .now) in
+    sym (act-next (a .word) (a .inputs .now) m _ (opcode-6 (fieldsOf (a .word)) (c .before .before .match .keys7)) (le-ltb _ _ (c .if3 .left)))
 
 -- src/act.rt:53:1
 same-length : tie.Need-same-length
@@ -214,23 +287,43 @@ same-length c = search needs
 
 -- src/act.rt:53:1
 returns-16 : tie.Need-returns-16
-returns-16 c = ?
+unfolding fieldsOf
+returns-16 c = 
+    let a = c .before .before .before .before .before .before .before .before .before .before .args in
+    let m = machineAt (a .registers .now) (a .core) (a .history .now) in
+    rw (c .before .before .store .ensures) (sym (act-present (a .word) (a .inputs .now) m (c .before .before .before .before .before .before .match .keys9) (c .before .before .before .before .before .if4 .left)))
 
 -- src/act.rt:53:1
 returns-17 : tie.Need-returns-17
-returns-17 c = ?
+unfolding fieldsOf
+returns-17 c = 
+    let a = c .before .before .before .before .before .args in
+    let m = machineAt (a .registers .now) (a .core) (a .history .now) in
+    rw (c .set-bit .ensures) (sym (act-set (a .word) (a .inputs .now) m (c .before .match .keys10)))
 
 -- src/act.rt:53:1
 returns-18 : tie.Need-returns-18
-returns-18 c = ?
+unfolding fieldsOf meets
+returns-18 c = 
+    let a = c .before .before .before .before .before .before .args in
+    let m = machineAt (a .registers .now) (a .core) (a .history .now) in
+    sym (act-next (a .word) (a .inputs .now) m _ (opcode-10 (fieldsOf (a .word)) (c .before .before .match .keys11)) (sym (c .before .has .ensures) ∙ c .if5 .left))
 
 -- src/act.rt:53:1
 returns-19 : tie.Need-returns-19
-returns-19 c = ?
+unfolding fieldsOf meets
+returns-19 c = 
+    let a = c .before .before .before .before .before .before .args in
+    let m = machineAt (a .registers .now) (a .core) (a .history .now) in
+    sym (act-next (a .word) (a .inputs .now) m _ (opcode-11 (fieldsOf (a .word)) (c .before .before .match .keys12)) (sym (c .before .has2 .ensures) ∙ c .if6 .left))
 
 -- src/act.rt:53:1
 returns-20 : tie.Need-returns-20
-returns-20 c = ?
+unfolding fieldsOf
+returns-20 c = 
+    let a = c .before .before .before .before .before .before .args in
+    let m = machineAt (a .registers .now) (a .core) (a .history .now) in
+    rw (c .set-bit2 .ensures, c .before .has3 .ensures) (sym (act-keep (a .word) (a .inputs .now) m (c .before .before .match .keys13)))
 
 pub advance-spec : {M : Type 1} → statement M
 advance-spec =
