@@ -7,19 +7,19 @@ use mathlib.Core.Bool.{Bool, false}
 use mathlib.Core.List.{List, []}
 use Prim.Native.Nat.{ℕ, zero, suc, _≤_, _<_}
 use native.Mathlib.Omega.{arith}
-use lib.ListN.{length, take, length-take, List·getD-eq-default}
+use lib.ListN.{length, take, List·getD-eq-default}
 use lib.Dec.{ltb}
 use borrow.Author.Tests.{ne-eqb}
 use Rattle.spec.specs.Logic.{State}
 use Rattle.spec.specs.Rule.{falseNode, form32, Table, tableOf, isWeakPrevious, prior}
 use Rattle.spec.specs.Machine.{machine, zeros, fresh, tableWithin, freshOf}
 use Rattle.spec.proofs.BoolLaws.{le-or-lt}
-use Rattle.spec.proofs.RuleLaws.{length-table}
 use Rattle.spec.proofs.ValueLaws.{prior-first}
 use Rattle.sets.specs.Sets.{setOf, adding}
 use Rattle.sets.proofs.SetLaws.{empty-is}
 use Rattle.rule.specs.Monitor.{firstBelow, firstPriors}
 use Rattle.rule.proofs.MonitorLaws.{first-is}
+use Rattle.machine.proofs.StepLaws.{within-few}
 
 none-above : (t : Table) (n j : ℕ) → n ≤ j → firstBelow n t j ≡ false
 unfolding firstBelow adding
@@ -34,10 +34,6 @@ first-priors t few s =
       | inl h ↦ none-above t (length t) k h ∙ sym (prior-first t s k ∙ ap isWeakPrevious (List·getD-eq-default t falseNode h))
       | inr h ↦ first-is t few k h ∙ sym (prior-first t s k)
     ])
-
-within-few : (rule : List ℕ) → length (tableWithin form32 rule) ≤ 32
-unfolding form32
-within-few rule = omega (arith, length-table form32 (take 32 rule), length-take 32 rule)
 
 pub fresh-is : (rule ws : List ℕ) (kept : ℕ) → setOf kept ≡ firstPriors (tableOf form32 ws) → ws ≡ take 32 rule → (lent : List ℕ)
     → machine 0 zeros (setOf kept) (setOf 0) 0 0 lent ≡ freshOf form32 rule lent
