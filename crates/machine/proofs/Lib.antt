@@ -1,4 +1,6 @@
 -- `ActLaws`: what an instruction does, by opcode. `StepLaws`: one step of a stored script. `StartLaws`: the fresh start.
+-- `RunLaws`: what stops a run, and how it goes on.
 pub mod ActLaws
 pub mod StepLaws
 pub mod StartLaws
+pub mod RunLaws

@@ -1,16 +1,24 @@
 // The machine that runs annotated scripts: its fresh start, one step, and a run with a budget.
 use crate::act::Core;
 use crate::act::advance;
+use crate::running::RunAnswer;
+use crate::running::refuse;
+use crate::running::run_from;
+use checker::check_script;
+use rule::answer::Answer;
+use rule::judging::ask_numbers;
 use rule::monitor::first_priors;
 use script::line::word_allowed;
 ghost use mathlib.Core.Path.{_≡_};
 ghost use mathlib.Core.List.{List};
 ghost use Prim.Native.Nat.{ℕ};
 ghost use Rattle.spec.specs.Rule.{form32};
-ghost use Rattle.spec.specs.Machine.{freshOf, canRun, stepOf};
+ghost use Rattle.spec.specs.Machine.{freshOf, canRun, stepOf, running, reportOf, historyAfter};
 ghost use Rattle.machine.specs.Machines.{machineOf, coreOf};
+ghost use Rattle.machine.specs.Runs.{reportIn};
 
 pub mod act;
+pub mod running;
 
 // A machine. The history is lent to each step; the first 16 × presentations numbers of it are the states presented.
 pub struct Machine {
@@ -92,4 +100,26 @@ fn can_run(rule: &[u32], script: &[u32], l: usize) -> bool
     } else {
         word_allowed(&rule[..32], word, 12)
     }
+}
+
+// A run of a script for a rule: questions 1 to 11, and 15 of the inputs; then steps from a fresh start until something stops it.
+pub fn run(
+    rule: &[u32],
+    script: &[u32],
+    inputs: &[u16],
+    budget: u64,
+    history: &mut [u16],
+) -> RunAnswer
+    ensures report { λ r. ⌜ reportIn r ≡ reportOf (running form32 (now (rule .entry)) (now (script .entry)) (now (inputs .entry)) budget (now (history .entry))) ⌝ }
+    ensures lent { λ r. ⌜ now (history .exit) ≡ historyAfter (running form32 (now (rule .entry)) (now (script .entry)) (now (inputs .entry)) budget (now (history .entry))) (now (history .entry)) ⌝ }
+{
+    let checked = check_script(rule, script);
+    if let Answer::Refused { question, place } = checked {
+        return refuse(question, place);
+    }
+    let numbers = ask_numbers(inputs);
+    if let Answer::Refused { question, place } = numbers {
+        return refuse(question, place);
+    }
+    run_from(first_priors(rule), script, inputs, budget, history)
 }

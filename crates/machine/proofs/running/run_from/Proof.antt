@@ -1,0 +1,104 @@
+-- `machine::running::run_from` meets its contract. The loop keeps: the line is there, and the run that is left of the budget from
+-- here is the whole run. The measure is what is left of the budget. Assumes nothing.
+use Prim.Native.Nat.{ℕ, _+_, _-_, _*_, _/_, _≤_, _<_}
+use mathlib.Core.Path.{_≡_, refl, sym, ap, _∙_}
+use mathlib.Core.List.{List}
+use mathlib.Core.Option.{none, some}
+use native.Mathlib.Omega.{arith}
+use lib.Dec.{eqb}
+use lib.ListN.{length, getD}
+use Rattle.spec.specs.Questions.{passed}
+use Rattle.spec.specs.Rule.{form32}
+use Rattle.spec.specs.Script.{Code, Instruction, instructionRead}
+use Rattle.spec.specs.Check.{codeOf, linesOf}
+use Rattle.spec.specs.Machine.{Machine, Ended, run, stops, reportOf}
+use Rattle.machine.specs.declared.act.Core.{Core}
+use Rattle.machine.specs.Machines.{machineAt}
+use Rattle.machine.specs.Runs.{nextOf, stopOf, stopBefore, runFrom}
+use Rattle.machine.proofs.StepLaws.{instruction-at}
+use Rattle.machine.proofs.RunLaws.{run-goes, line-goes, run-ends}
+use borrow.Author.Needs.{needs}
+use Rattle.machine.proofs.running.run_from.Statement.{statement}
+use Rattle.machine.proofs.running.run_from.Tie as tie
+
+abbrev code : List ℕ → Code
+code ws = codeOf (linesOf form32 ws)
+
+abbrev at : List ℕ → ℕ → Instruction
+at ws l = instructionRead (getD ws (8 * l) 0)
+
+abbrev Inv-loop : tie.InvT-loop
+Inv-loop kept script inputs budget history₀ registers₀ core₀ steps₀ history registers core steps =
+    (core .line < length script / 8) × (steps ≤ budget) × (length history ≡ length history₀)
+    × (run (budget - steps) (code script) inputs steps (machineAt registers core history) ≡ runFrom kept script inputs budget history₀)
+
+abbrev μ-loop : tie.MeasureT-loop
+μ-loop kept script inputs budget history₀ registers₀ core₀ steps₀ history registers core steps = budget - steps
+
+loop-holds : tie.Need-loop-holds Inv-loop μ-loop
+loop-holds c =
+    let a = c .before .before .before .args in
+    let z : a .budget - 0 ≡ a .budget = omega arith in (
+      c .before .before .before .pre .start,
+      omega arith,
+      refl,
+      rw z refl,
+    )
+
+mul-word : tie.Need-mul-word Inv-loop μ-loop
+mul-word c = search needs
+
+mul-word-2 : tie.Need-mul-word-2 Inv-loop μ-loop
+mul-word-2 c = search needs
+
+shared-slice-read-word : tie.Need-shared-slice-read-word Inv-loop μ-loop
+shared-slice-read-word c = search needs
+
+before-step-requires : tie.Need-before-step-requires Inv-loop μ-loop
+before-step-requires c κs = search needs
+
+enum-told : tie.Need-enum-told Inv-loop μ-loop
+enum-told c = c .match .keys1
+
+advance-requires : tie.Need-advance-requires Inv-loop μ-loop
+advance-requires c κs =
+    let a = c .before .before .before .before .before .before .before .before .before .before .before .args in
+    let l = c .before .before .before .before .before .before .before .loop in (omega arith, c .before .before .before .before .before .before .before .before .before .before .before .pre .held (l .core .line) (l .inv .0))
+
+add-steps : tie.Need-add-steps Inv-loop μ-loop
+add-steps c = ?
+
+loop-less : tie.Need-loop-less Inv-loop μ-loop
+loop-less c = ?
+
+loop-again : tie.Need-loop-again Inv-loop μ-loop
+loop-again c = ?
+
+enum-known-next : tie.Need-enum-known-next Inv-loop μ-loop
+enum-known-next c = search needs
+
+same-length : tie.Need-same-length Inv-loop μ-loop
+same-length c = c .before .before .before .before .before .before .loop .inv .2
+
+returns : tie.Need-returns Inv-loop μ-loop
+returns c = ?
+
+pub run-from-spec : {M : Type 1} → statement M
+run-from-spec =
+    tie.close
+    (tie.spec
+    Inv-loop
+    μ-loop
+    loop-holds
+    mul-word
+    mul-word-2
+    shared-slice-read-word
+    before-step-requires
+    enum-told
+    advance-requires
+    add-steps
+    loop-less
+    loop-again
+    enum-known-next
+    same-length
+    returns)
