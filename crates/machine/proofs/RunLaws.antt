@@ -2,7 +2,7 @@
 --     stop-halted, stop-spent, stop-dry, stop-full, go-input, go-present, go-other    what comes before a step, by opcode
 --     run-goes, line-goes         one turn of a run that nothing stops
 --     Ends, run-ends              a run that something stops
---     runnable                    a script that is accepted is runnable
+--     Goes, turn-goes, turn-ends  a turn of the loop over a stored script, and its end
 -- Assumes nothing.
 use mathlib.Core.Path.{_≡_, refl, sym, ap, ap₂, _∙_}
 use mathlib.Core.Bool.{Bool, true, false, cond, not, _&&_, _||_}
@@ -16,11 +16,14 @@ use lib.ListN.{length, getD}
 use borrow.Author.Tests.{ltb-true, lt-ltb, le-ltb, le-leb, lt-leb, eqb-true, eqb-false}
 use Rattle.spec.specs.Questions.{Answer, passed, refused}
 use Rattle.spec.specs.Script.{constant, copyOf, plus, nextInput, Condition, Instruction, halt, write, branch, goto, present, setWork, keep, Code, instructionAt, Fields, fieldsOf, byOpcode, instructionOf, instructionRead, followersExist}
-use Rattle.spec.specs.Machine.{Machine, lacksSpace, meets, move, Stop, halted, spent, dry, full, stops, step, isHalted, Ended, endedAs, run}
+use Rattle.spec.specs.Machine.{Machine, lacksSpace, meets, move, Stop, halted, spent, dry, full, stops, step, isHalted, Ended, endedAs, run, Report, reportOf}
 use Rattle.spec.proofs.BoolLaws.{and-both, clash}
 use Rattle.spec.proofs.OpcodeLaws.{by-opcode, opcode-4, opcode-8}
+use Rattle.spec.specs.Rule.{form32}
+use Rattle.spec.specs.Check.{codeOf, linesOf}
 use Rattle.machine.specs.Machines.{acting}
-use Rattle.machine.specs.Runs.{stopBefore}
+use Rattle.machine.specs.Runs.{stopBefore, Runnable}
+use Rattle.machine.proofs.StepLaws.{instruction-at}
 
 -- ---- what comes before a step, by opcode
 
@@ -169,3 +172,46 @@ module _ (inputs : List ℕ) (m : Machine) (n : ℕ) (h : m .line < n) where
   pub line-goes : (i : Instruction) (b : Bool) → followersExist n (m .line) i ≡ true → stopBefore b (stops inputs i m) ≡ none → acting inputs i m .line < n
   unfolding acting
   line-goes i b e d = rw (goes b (stops inputs i m) d .1) (move-in i e)
+
+-- ---- a turn of the loop over a stored script
+
+abbrev pub reportAt : ℕ → Machine → Answer Stop → Report
+reportAt n m a = record {
+  stop = a;
+  line = m .line;
+  registers = m .registers;
+  stepCount = n;
+  presentations = m .presentations;
+  inputsRead = m .inputsRead;
+}
+
+module _ (ws inputs : List ℕ) (m : Machine) (n budget : ℕ) where
+  abbrev code : Code
+  code = codeOf (linesOf form32 ws)
+
+  abbrev here : Instruction
+  here = instructionRead (getD ws (8 * m .line) 0)
+
+  -- nothing stops it, and `after` is the machine after it
+  pub record Goes (after : Machine) : Type 0 where
+    pub less : n < budget
+    pub line : after .line < length ws / 8
+    pub same : run (budget - (n + 1)) code inputs (n + 1) after ≡ run (budget - n) code inputs n m
+
+  module _ (script : Runnable ws) (h : m .line < length ws / 8) (le : n ≤ budget) where
+    pub turn-goes : stopBefore (eqb n budget) (stops inputs here m) ≡ none → (after : Machine) → after ≡ acting inputs here m → Goes after
+    turn-goes e after d =
+        let (less, same) = run-goes code inputs m here (instruction-at ws (m .line) h) n budget le e in record {
+          less = less;
+          line = rw d (line-goes inputs m (length ws / 8) h here (eqb n budget) (script .follow (m .line) h) e);
+          same = same after d;
+        }
+
+    pub turn-ends : (a : Answer Stop) → stopBefore (eqb n budget) (stops inputs here m) ≡ some a → (e : Ended) → run (budget - n) code inputs n m ≡ e
+        → (reportAt n m a ≡ reportOf (passed e)) × (m .history ≡ e .final .history)
+    turn-ends a d e same =
+        let ends = run-ends code inputs m here (instruction-at ws (m .line) h) n budget le a d in
+        let q : e ≡ endedAs n m (ends .reason) = sym same ∙ ends .ended in (
+          ap (reportAt n m) (ends .told) ∙ ap (λ x. reportOf (passed x)) (sym q),
+          ap (λ (x : Ended). x .final .history) (sym q),
+        )

@@ -16,7 +16,7 @@ use Rattle.machine.specs.declared.act.Core.{Core}
 use Rattle.machine.specs.Machines.{machineAt}
 use Rattle.machine.specs.Runs.{nextOf, stopOf, stopBefore, runFrom}
 use Rattle.machine.proofs.StepLaws.{instruction-at}
-use Rattle.machine.proofs.RunLaws.{run-goes, line-goes, run-ends}
+use Rattle.machine.proofs.RunLaws.{turn-goes, turn-ends}
 use borrow.Author.Needs.{needs}
 use Rattle.machine.proofs.running.run_from.Statement.{statement}
 use Rattle.machine.proofs.running.run_from.Tie as tie
@@ -66,13 +66,32 @@ advance-requires c κs =
     let l = c .before .before .before .before .before .before .before .loop in (omega arith, c .before .before .before .before .before .before .before .before .before .before .before .pre .held (l .core .line) (l .inv .0))
 
 add-steps : tie.Need-add-steps Inv-loop μ-loop
-add-steps c = ?
+add-steps c =
+    let a = c .before .before .before .before .before .before .before .before .before .before .before .before .before .before .args in
+    let l = c .before .before .before .before .before .before .before .before .before .before .loop in
+    let g = turn-goes (a .script .now) (a .inputs .now) (machineAt (l .registers) (l .core) (l .history)) (l .steps) (a .budget) (c .before .before .before .before .before .before .before .before .before .before .before .before .before .before .pre) (l .inv .0) (l .inv .1)
+        (sym (c .before .before .before .before .before .before .before .before-step .ensures (l .registers)) ∙ ap nextOf (c .before .before .before .before .before .enum-told .given .1)) _ (c .before .before .advance .ensures) in
+    omega (arith, g .less)
 
 loop-less : tie.Need-loop-less Inv-loop μ-loop
-loop-less c = ?
+loop-less c =
+    let a = c .before .before .before .before .before .before .before .before .before .before .before .before .before .before .args in
+    let l = c .before .before .before .before .before .before .before .before .before .before .loop in
+    let g = turn-goes (a .script .now) (a .inputs .now) (machineAt (l .registers) (l .core) (l .history)) (l .steps) (a .budget) (c .before .before .before .before .before .before .before .before .before .before .before .before .before .before .pre) (l .inv .0) (l .inv .1)
+        (sym (c .before .before .before .before .before .before .before .before-step .ensures (l .registers)) ∙ ap nextOf (c .before .before .before .before .before .enum-told .given .1)) _ (c .before .before .advance .ensures) in
+    omega (arith, g .less)
 
 loop-again : tie.Need-loop-again Inv-loop μ-loop
-loop-again c = ?
+loop-again c =
+    let a = c .before .before .before .before .before .before .before .before .before .before .before .before .before .before .args in
+    let l = c .before .before .before .before .before .before .before .before .before .before .loop in
+    let g = turn-goes (a .script .now) (a .inputs .now) (machineAt (l .registers) (l .core) (l .history)) (l .steps) (a .budget) (c .before .before .before .before .before .before .before .before .before .before .before .before .before .before .pre) (l .inv .0) (l .inv .1)
+        (sym (c .before .before .before .before .before .before .before .before-step .ensures (l .registers)) ∙ ap nextOf (c .before .before .before .before .before .enum-told .given .1)) _ (c .before .before .advance .ensures) in (
+      g .line,
+      omega (arith, g .less),
+      c .before .before .advance .kept .1 .1 .1 .1 .0 ∙ l .inv .2,
+      g .same ∙ l .inv .3,
+    )
 
 enum-known-next : tie.Need-enum-known-next Inv-loop μ-loop
 enum-known-next c = search needs
@@ -81,7 +100,11 @@ same-length : tie.Need-same-length Inv-loop μ-loop
 same-length c = c .before .before .before .before .before .before .loop .inv .2
 
 returns : tie.Need-returns Inv-loop μ-loop
-returns c = ?
+returns c =
+    let a = c .before .before .before .before .before .before .before .before .before .before .args in
+    let l = c .before .before .before .before .before .before .loop in
+    turn-ends (a .script .now) (a .inputs .now) (machineAt (l .registers) (l .core) (l .history)) (l .steps) (a .budget) (c .before .before .before .before .before .before .before .before .before .before .pre) (l .inv .0) (l .inv .1) _
+    (sym (c .before .before .before .before-step .ensures (l .registers)) ∙ ap nextOf (c .before .next .given .1)) _ (l .inv .3)
 
 pub run-from-spec : {M : Type 1} → statement M
 run-from-spec =
