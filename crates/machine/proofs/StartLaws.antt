@@ -1,5 +1,5 @@
 -- The fresh start (`specs/Machine.antt` of crate spec).
---     fresh-is     a machine whose kept bits are the first priors of at most 32 nodes is the fresh start
+--     start-is, fresh-is     a machine whose kept bits are the first priors is the fresh start
 -- Assumes nothing.
 use mathlib.Core.Path.{_≡_, refl, sym, ap, ap₂, fun-ext, _∙_}
 use mathlib.Core.Logic.{_⊎_, inl, inr}
@@ -27,7 +27,7 @@ none-above t zero j h = refl
 none-above t (suc n) j h = rw (none-above t n j (omega arith), ne-eqb j n (λ e. omega arith))
 
 -- every kept bit its prior, also of nodes that are none
-pub first-priors : (t : Table) → length t ≤ 64 → (s : State) → firstPriors t ≡ (λ k. prior t [] s k)
+first-priors : (t : Table) → length t ≤ 64 → (s : State) → firstPriors t ≡ (λ k. prior t [] s k)
 unfolding firstPriors
 first-priors t few s =
     fun-ext (λ k. elim (le-or-lt (length t) k) [
@@ -35,10 +35,14 @@ first-priors t few s =
       | inr h ↦ first-is t few k h ∙ sym (prior-first t s k)
     ])
 
+pub start-is : (t : Table) → length t ≤ 64 → (kept : ℕ) → setOf kept ≡ firstPriors t → (lent : List ℕ)
+    → machine 0 zeros (setOf kept) (setOf 0) 0 0 lent ≡ fresh t lent
+unfolding fresh
+start-is t few kept e lent = ap₂ (λ (k w : ℕ → Bool). machine 0 zeros k w 0 0 lent) (e ∙ first-priors t few zeros) empty-is
+
 pub fresh-is : (rule ws : List ℕ) (kept : ℕ) → setOf kept ≡ firstPriors (tableOf form32 ws) → ws ≡ take 32 rule → (lent : List ℕ)
     → machine 0 zeros (setOf kept) (setOf 0) 0 0 lent ≡ freshOf form32 rule lent
-unfolding freshOf fresh form32
+unfolding freshOf form32
 fresh-is rule ws kept e d lent =
     let few = within-few rule in
-    let p = e ∙ ap (λ (x : List ℕ). firstPriors (tableOf form32 x)) d ∙ first-priors (tableWithin form32 rule) (omega arith) zeros in
-    ap₂ (λ (k w : ℕ → Bool). machine 0 zeros k w 0 0 lent) p empty-is
+    start-is (tableWithin form32 rule) (omega arith) kept (e ∙ ap (λ (x : List ℕ). firstPriors (tableOf form32 x)) d) lent
