@@ -12,11 +12,11 @@ use Rattle.spec.specs.Check.{codeOf, lineLength, linesOf}
 use Rattle.spec.specs.Machine as spec
 use Rattle.spec.specs.Machine.{machine, zeros, halted, spent, dry, full, isHalted, Ended, Report}
 use Rattle.sets.specs.Sets.{setOf}
-use Rattle.machine.specs.declared.running.Stop.{Stop}
-use Rattle.machine.specs.declared.running.Stop.the-variants.{Refused, Halted, Spent, Dry, Full}
+use Rattle.machine.specs.declared.answer.Stop.{Stop}
+use Rattle.machine.specs.declared.answer.Stop.the-variants.{Refused, Halted, Spent, Dry, Full}
 use Rattle.machine.specs.declared.running.Next.{Next}
 use Rattle.machine.specs.declared.running.Next.the-variants.{Going, Stopped}
-use Rattle.machine.specs.declared.running.RunAnswer.{RunAnswer}
+use Rattle.machine.specs.declared.answer.RunAnswer.{RunAnswer}
 use Rattle.machine.specs.Machines.{namesHeld}
 
 -- ---- answers

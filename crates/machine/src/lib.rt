@@ -1,7 +1,7 @@
 // The machine that runs annotated scripts: its fresh start, one step, and a run with a budget.
 use crate::act::Core;
 use crate::act::advance;
-use crate::running::RunAnswer;
+use crate::answer::RunAnswer;
 use crate::running::refuse;
 use crate::running::run_from;
 use checker::check_script;
@@ -17,8 +17,9 @@ ghost use Rattle.spec.specs.Machine.{freshOf, canRun, stepOf, running, reportOf
 ghost use Rattle.machine.specs.Machines.{machineOf, coreOf};
 ghost use Rattle.machine.specs.Runs.{reportIn};
 
-pub mod act;
-pub mod running;
+mod act;
+pub mod answer;
+mod running;
 
 // A machine. The history is lent to each step; the first 16 × presentations numbers of it are the states presented.
 pub struct Machine {
@@ -63,7 +64,13 @@ impl Machine {
             return self;
         }
         let mut registers = self.registers;
-        let core = advance(&mut registers, self.core(), script[8 * line], inputs, history);
+        let core = advance(
+            &mut registers,
+            self.core(),
+            script[8 * line],
+            inputs,
+            history,
+        );
         Machine {
             registers,
             kept: core.kept,

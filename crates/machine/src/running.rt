@@ -1,6 +1,8 @@
 // A run of a script: what stops it, and the loop over its steps.
 use crate::act::Core;
 use crate::act::advance;
+use crate::answer::RunAnswer;
+use crate::answer::Stop;
 ghost use mathlib.Core.Path.{_≡_};
 ghost use mathlib.Core.List.{List};
 ghost use Prim.Native.Nat.{ℕ};
@@ -9,29 +11,6 @@ ghost use Rattle.spec.specs.Script.{instructionRead};
 ghost use Rattle.spec.specs.Machine.{stops, reportOf};
 ghost use Rattle.machine.specs.Machines.{machineAt};
 ghost use Rattle.machine.specs.Runs.{reportIn, nextOf, stopBefore, Runnable, runFrom};
-
-// Why a run stopped.
-pub enum Stop {
-    // The number and place of the first question that has a no.
-    Refused { question: u32, place: usize },
-    // At a halt.
-    Halted,
-    // The budget is spent.
-    Spent,
-    // At an input when none is left.
-    Dry,
-    // At a present with under 16 free numbers in the history.
-    Full,
-}
-
-pub struct RunAnswer {
-    pub stop: Stop,
-    pub line: usize,
-    pub registers: [u16; 16],
-    pub steps: u64,
-    pub presentations: usize,
-    pub reads: usize,
-}
 
 // What comes next in a run.
 pub enum Next {

@@ -11,316 +11,254 @@ use Rattle.machine.proofs.ActLaws.{held-copy, held-set, held-keep, act-
 use borrow.Author.Needs.{needs}
 use Rattle.machine.proofs.act.advance.Statement.{statement}
 use Rattle.machine.proofs.act.advance.Tie as tie
-use Rattle.machine.proofs.act.advance.Reads as reads
-use Rattle.machine.proofs.act.advance.Lts as lts
-use Rattle.machine.proofs.act.set_bit.Reads as set-bit-reads
-use Rattle.machine.proofs.act.store.Reads as store-reads
-use Rattle.machine.proofs.act.sum.Reads as sum-reads
-use Rattle.sets.proofs.has.Reads as has-reads
 
--- src/act.rt:64:13
 cast-r : tie.Need-cast-r
 cast-r c = search needs
 
--- src/act.rt:65:13
 cast-c : tie.Need-cast-c
 cast-c c = search needs
 
--- src/act.rt:66:18
 cast-target : tie.Need-cast-target
 cast-target c = search needs
 
--- src/act.rt:67:16
 add-next : tie.Need-add-next
 add-next c = search needs
 
--- src/act.rt:70:13
 returns : tie.Need-returns
 unfolding fieldsOf
-returns c = 
+returns c =
     let a = c .before .before .before .before .args in
     let m = machineAt (a .registers .now) (a .core) (a .history .now) in
     sym (act-halt (a .word) (a .inputs .now) m (opcode-0 (fieldsOf (a .word)) (c .match .keys1)))
 
--- src/act.rt:73:28
 cast-registers : tie.Need-cast-registers
 cast-registers c = search needs
 
--- src/act.rt:73:13
 mul-registers : tie.Need-mul-registers
 mul-registers c = search needs
 
--- src/act.rt:73:13
 element-write-registers : tie.Need-element-write-registers
 element-write-registers c = search needs
 
--- src/act.rt:76:28
 mul-registers-2 : tie.Need-mul-registers-2
 mul-registers-2 c = search needs
 
--- src/act.rt:76:28
 element-copy-out-registers : tie.Need-element-copy-out-registers
 unfolding fieldsOf
 element-copy-out-registers c = let a = c .before .before .before .before .args in held-copy (a .word) (c .before .before .before .before .pre .1) (c .match .keys3)
 
--- src/act.rt:76:13
 mul-registers-3 : tie.Need-mul-registers-3
 mul-registers-3 c = search needs
 
--- src/act.rt:76:13
 element-write-registers-2 : tie.Need-element-write-registers-2
 element-write-registers-2 c = search needs
 
--- src/act.rt:79:32
 mul-sum : tie.Need-mul-sum
 mul-sum c = search needs
 
--- src/act.rt:79:32
 element-copy-out-sum : tie.Need-element-copy-out-sum
 element-copy-out-sum c = search needs
 
--- src/act.rt:79:46
 cast-sum : tie.Need-cast-sum
 cast-sum c = search needs
 
--- src/act.rt:79:28
 sum-requires : tie.Need-sum-requires
 sum-requires c κs = search needs
 
--- src/act.rt:79:13
 mul-registers-4 : tie.Need-mul-registers-4
 mul-registers-4 c = search needs
 
--- src/act.rt:79:13
 element-write-registers-3 : tie.Need-element-write-registers-3
 element-write-registers-3 c = search needs
 
--- src/act.rt:84:17
 returns-2 : tie.Need-returns-2
 unfolding fieldsOf
-returns-2 c = 
+returns-2 c =
     let a = c .before .before .before .before .before .args in
     let m = machineAt (a .registers .now) (a .core) (a .history .now) in
     sym (act-dry (a .word) (a .inputs .now) m (c .before .match .keys5) (c .if1 .taken))
 
--- src/act.rt:86:28
 mul-registers-5 : tie.Need-mul-registers-5
 mul-registers-5 c = search needs
 
--- src/act.rt:86:28
 shared-slice-read-registers : tie.Need-shared-slice-read-registers
 shared-slice-read-registers c = search needs
 
--- src/act.rt:86:13
 mul-registers-6 : tie.Need-mul-registers-6
 mul-registers-6 c = search needs
 
--- src/act.rt:86:13
 element-write-registers-4 : tie.Need-element-write-registers-4
 element-write-registers-4 c = search needs
 
--- src/act.rt:87:26
 add-core : tie.Need-add-core
 add-core c = search needs
 
--- src/act.rt:90:16
 mul-if2 : tie.Need-mul-if2
 mul-if2 c = search needs
 
--- src/act.rt:90:16
 element-copy-out-if2 : tie.Need-element-copy-out-if2
 element-copy-out-if2 c = search needs
 
--- src/act.rt:90:32
 cast-if2 : tie.Need-cast-if2
 cast-if2 c = search needs
 
--- src/act.rt:92:17
 returns-3 : tie.Need-returns-3
 unfolding fieldsOf meets passes
-returns-3 c = 
+returns-3 c =
     let a = c .before .before .before .before .before .before .args in
     let m = machineAt (a .registers .now) (a .core) (a .history .now) in
     sym (act-target (a .word) (a .inputs .now) m _ (opcode-5 (fieldsOf (a .word)) (c .before .before .match .keys6)) (eq-eqb _ _ (c .if2 .taken)))
 
--- src/act.rt:96:16
 mul-if3 : tie.Need-mul-if3
 mul-if3 c = search needs
 
--- src/act.rt:96:16
 element-copy-out-if3 : tie.Need-element-copy-out-if3
 element-copy-out-if3 c = search needs
 
--- src/act.rt:96:31
 cast-if3 : tie.Need-cast-if3
 cast-if3 c = search needs
 
--- src/act.rt:98:17
 returns-4 : tie.Need-returns-4
 unfolding fieldsOf meets passes
-returns-4 c = 
+returns-4 c =
     let a = c .before .before .before .before .before .before .args in
     let m = machineAt (a .registers .now) (a .core) (a .history .now) in
     sym (act-target (a .word) (a .inputs .now) m _ (opcode-6 (fieldsOf (a .word)) (c .before .before .match .keys7)) (lt-ltb _ _ (c .if3 .taken)))
 
--- src/act.rt:103:13
 returns-5 : tie.Need-returns-5
 unfolding fieldsOf
-returns-5 c = 
+returns-5 c =
     let a = c .before .before .before .before .args in
     let m = machineAt (a .registers .now) (a .core) (a .history .now) in
     sym (act-go (a .word) (a .inputs .now) m (c .match .keys8))
 
--- src/act.rt:108:17
 returns-6 : tie.Need-returns-6
 unfolding fieldsOf
-returns-6 c = 
+returns-6 c =
     let a = c .before .before .before .before .before .args in
     let m = machineAt (a .registers .now) (a .core) (a .history .now) in
     sym (act-full (a .word) (a .inputs .now) m (c .before .match .keys9) (c .if4 .taken))
 
--- src/act.rt:110:13
 store-requires : tie.Need-store-requires
 store-requires c κs = search needs
 
--- src/act.rt:111:34
 add-core-2 : tie.Need-add-core-2
 add-core-2 c = search needs
 
--- src/act.rt:114:13
 set-bit-requires : tie.Need-set-bit-requires
 unfolding fieldsOf
 set-bit-requires c κs = let a = c .before .before .before .before .args in held-set (a .word) (c .before .before .before .before .pre .1) (c .match .keys10)
 
--- src/act.rt:117:16
 has-requires : tie.Need-has-requires
 has-requires c κs = search needs
 
--- src/act.rt:119:17
 returns-7 : tie.Need-returns-7
 unfolding fieldsOf meets
-returns-7 c = 
+returns-7 c =
     let a = c .before .before .before .before .before .before .args in
     let m = machineAt (a .registers .now) (a .core) (a .history .now) in
     sym (act-target (a .word) (a .inputs .now) m _ (opcode-10 (fieldsOf (a .word)) (c .before .before .match .keys11)) (sym (c .before .has .ensures) ∙ c .if5 .taken))
 
--- src/act.rt:123:16
 has-requires-2 : tie.Need-has-requires-2
 has-requires-2 c κs = search needs
 
--- src/act.rt:125:17
 returns-8 : tie.Need-returns-8
 unfolding fieldsOf meets
-returns-8 c = 
+returns-8 c =
     let a = c .before .before .before .before .before .before .args in
     let m = machineAt (a .registers .now) (a .core) (a .history .now) in
     sym (act-target (a .word) (a .inputs .now) m _ (opcode-11 (fieldsOf (a .word)) (c .before .before .match .keys12)) (sym (c .before .has2 .ensures) ∙ c .if6 .taken))
 
--- src/act.rt:129:47
 has-requires-3 : tie.Need-has-requires-3
 has-requires-3 c κs = search needs
 
--- src/act.rt:129:13
 set-bit-requires-2 : tie.Need-set-bit-requires-2
 unfolding fieldsOf
 set-bit-requires-2 c κs = let a = c .before .before .before .before .before .args in held-keep (a .word) (c .before .before .before .before .before .pre .1) (c .before .match .keys13)
 
--- src/act.rt:132:13
 returns-9 : tie.Need-returns-9
 unfolding fieldsOf
-returns-9 c = 
+returns-9 c =
     let a = c .before .before .before .before .args in
     let m = machineAt (a .registers .now) (a .core) (a .history .now) in
     sym (act-halt (a .word) (a .inputs .now) m (opcode-high (fieldsOf (a .word)) (beyond _ (c .match .rest))))
 
--- src/act.rt:53:1
 returns-10 : tie.Need-returns-10
 unfolding fieldsOf
-returns-10 c = 
+returns-10 c =
     let a = c .before .before .before .before .args in
     let m = machineAt (a .registers .now) (a .core) (a .history .now) in
     sym (act-constant (a .word) (a .inputs .now) m (c .match .keys2))
 
--- src/act.rt:53:1
 returns-11 : tie.Need-returns-11
 unfolding fieldsOf
-returns-11 c = 
+returns-11 c =
     let a = c .before .before .before .before .before .args in
     let m = machineAt (a .registers .now) (a .core) (a .history .now) in
     sym (act-copy (a .word) (a .inputs .now) m (c .before .match .keys3))
 
--- src/act.rt:53:1
 returns-12 : tie.Need-returns-12
 unfolding fieldsOf
-returns-12 c = 
+returns-12 c =
     let a = c .before .before .before .before .before .before .args in
     let m = machineAt (a .registers .now) (a .core) (a .history .now) in
     rw (c .sum .ensures) (sym (act-sum (a .word) (a .inputs .now) m (c .before .before .match .keys4)))
 
--- src/act.rt:53:1
 returns-13 : tie.Need-returns-13
 unfolding fieldsOf
-returns-13 c = 
+returns-13 c =
     let a = c .before .before .before .before .before .before .args in
     let m = machineAt (a .registers .now) (a .core) (a .history .now) in
     sym (act-input (a .word) (a .inputs .now) m (c .before .before .match .keys5) (c .before .if1 .left))
 
--- src/act.rt:53:1
 returns-14 : tie.Need-returns-14
 unfolding fieldsOf meets passes
-returns-14 c = 
+returns-14 c =
     let a = c .before .before .before .before .before .before .args in
     let m = machineAt (a .registers .now) (a .core) (a .history .now) in
     sym (act-next (a .word) (a .inputs .now) m _ (opcode-5 (fieldsOf (a .word)) (c .before .before .match .keys6)) (ne-eqb _ _ (c .if2 .left)))
 
--- src/act.rt:53:1
 returns-15 : tie.Need-returns-15
 unfolding fieldsOf meets passes
-returns-15 c = 
+returns-15 c =
     let a = c .before .before .before .before .before .before .args in
     let m = machineAt (a .registers .now) (a .core) (a .history .now) in
     sym (act-next (a .word) (a .inputs .now) m _ (opcode-6 (fieldsOf (a .word)) (c .before .before .match .keys7)) (le-ltb _ _ (c .if3 .left)))
 
--- src/act.rt:53:1
 same-length : tie.Need-same-length
 same-length c = search needs
 
--- src/act.rt:53:1
 returns-16 : tie.Need-returns-16
 unfolding fieldsOf
-returns-16 c = 
+returns-16 c =
     let a = c .before .before .before .before .before .before .before .before .before .before .args in
     let m = machineAt (a .registers .now) (a .core) (a .history .now) in
     rw (c .before .before .store .ensures) (sym (act-present (a .word) (a .inputs .now) m (c .before .before .before .before .before .before .match .keys9) (c .before .before .before .before .before .if4 .left)))
 
--- src/act.rt:53:1
 returns-17 : tie.Need-returns-17
 unfolding fieldsOf
-returns-17 c = 
+returns-17 c =
     let a = c .before .before .before .before .before .args in
     let m = machineAt (a .registers .now) (a .core) (a .history .now) in
     rw (c .set-bit .ensures) (sym (act-set (a .word) (a .inputs .now) m (c .before .match .keys10)))
 
--- src/act.rt:53:1
 returns-18 : tie.Need-returns-18
 unfolding fieldsOf meets
-returns-18 c = 
+returns-18 c =
     let a = c .before .before .before .before .before .before .args in
     let m = machineAt (a .registers .now) (a .core) (a .history .now) in
     sym (act-next (a .word) (a .inputs .now) m _ (opcode-10 (fieldsOf (a .word)) (c .before .before .match .keys11)) (sym (c .before .has .ensures) ∙ c .if5 .left))
 
--- src/act.rt:53:1
 returns-19 : tie.Need-returns-19
 unfolding fieldsOf meets
-returns-19 c = 
+returns-19 c =
     let a = c .before .before .before .before .before .before .args in
     let m = machineAt (a .registers .now) (a .core) (a .history .now) in
     sym (act-next (a .word) (a .inputs .now) m _ (opcode-11 (fieldsOf (a .word)) (c .before .before .match .keys12)) (sym (c .before .has2 .ensures) ∙ c .if6 .left))
 
--- src/act.rt:53:1
 returns-20 : tie.Need-returns-20
 unfolding fieldsOf
-returns-20 c = 
+returns-20 c =
     let a = c .before .before .before .before .before .before .args in
     let m = machineAt (a .registers .now) (a .core) (a .history .now) in
     rw (c .set-bit2 .ensures, c .before .has3 .ensures) (sym (act-keep (a .word) (a .inputs .now) m (c .before .before .match .keys13)))

@@ -70,7 +70,7 @@ add-steps c =
     let a = c .before .before .before .before .before .before .before .before .before .before .before .before .before .before .args in
     let l = c .before .before .before .before .before .before .before .before .before .before .loop in
     let g = turn-goes (a .script .now) (a .inputs .now) (machineAt (l .registers) (l .core) (l .history)) (l .steps) (a .budget) (c .before .before .before .before .before .before .before .before .before .before .before .before .before .before .pre) (l .inv .0) (l .inv .1)
-        (sym (c .before .before .before .before .before .before .before .before-step .ensures (l .registers)) ∙ ap nextOf (c .before .before .before .before .before .enum-told .given .1)) _ (c .before .before .advance .ensures) in
+    (sym (c .before .before .before .before .before .before .before .before-step .ensures (l .registers)) ∙ ap nextOf (c .before .before .before .before .before .enum-told .given .1)) _ (c .before .before .advance .ensures) in
     omega (arith, g .less)
 
 loop-less : tie.Need-loop-less Inv-loop μ-loop
@@ -78,7 +78,7 @@ loop-less c =
     let a = c .before .before .before .before .before .before .before .before .before .before .before .before .before .before .args in
     let l = c .before .before .before .before .before .before .before .before .before .before .loop in
     let g = turn-goes (a .script .now) (a .inputs .now) (machineAt (l .registers) (l .core) (l .history)) (l .steps) (a .budget) (c .before .before .before .before .before .before .before .before .before .before .before .before .before .before .pre) (l .inv .0) (l .inv .1)
-        (sym (c .before .before .before .before .before .before .before .before-step .ensures (l .registers)) ∙ ap nextOf (c .before .before .before .before .before .enum-told .given .1)) _ (c .before .before .advance .ensures) in
+    (sym (c .before .before .before .before .before .before .before .before-step .ensures (l .registers)) ∙ ap nextOf (c .before .before .before .before .before .enum-told .given .1)) _ (c .before .before .advance .ensures) in
     omega (arith, g .less)
 
 loop-again : tie.Need-loop-again Inv-loop μ-loop
@@ -86,7 +86,7 @@ loop-again c =
     let a = c .before .before .before .before .before .before .before .before .before .before .before .before .before .before .args in
     let l = c .before .before .before .before .before .before .before .before .before .before .loop in
     let g = turn-goes (a .script .now) (a .inputs .now) (machineAt (l .registers) (l .core) (l .history)) (l .steps) (a .budget) (c .before .before .before .before .before .before .before .before .before .before .before .before .before .before .pre) (l .inv .0) (l .inv .1)
-        (sym (c .before .before .before .before .before .before .before .before-step .ensures (l .registers)) ∙ ap nextOf (c .before .before .before .before .before .enum-told .given .1)) _ (c .before .before .advance .ensures) in (
+    (sym (c .before .before .before .before .before .before .before .before-step .ensures (l .registers)) ∙ ap nextOf (c .before .before .before .before .before .enum-told .given .1)) _ (c .before .before .advance .ensures) in (
       g .line,
       omega (arith, g .less),
       c .before .before .advance .kept .1 .1 .1 .1 .0 ∙ l .inv .2,
