@@ -23,6 +23,8 @@ fn before_step(core: Core, word: u32, inputs: &[u16], history: &[u16], spent: bo
     ensures { λ r. ⌜ ((registers : List ℕ) → nextOf r ≡ stopBefore spent (stops (now (inputs .entry)) (instructionRead word) (machineAt registers core (now (history .entry))))) ⌝ }
 {
     let opcode = word / 268435456 % 16;
+    let reads = core.reads;
+    let presentations = core.presentations;
     if opcode == 0 {
         return Next::Stopped(Stop::Halted);
     }
@@ -33,13 +35,13 @@ fn before_step(core: Core, word: u32, inputs: &[u16], history: &[u16], spent: bo
         return Next::Stopped(Stop::Spent);
     }
     if opcode == 4 {
-        if inputs.len() <= core.reads {
+        if inputs.len() <= reads {
             return Next::Stopped(Stop::Dry);
         }
         return Next::Going;
     }
     if opcode == 8 {
-        if history.len() / 16 <= core.presentations {
+        if history.len() / 16 <= presentations {
             return Next::Stopped(Stop::Full);
         }
         return Next::Going;

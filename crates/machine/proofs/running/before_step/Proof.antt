@@ -21,19 +21,19 @@ returns-3 c = let a = c .before .before .before .args in λ registers. stop-spen
 
 returns-4 : tie.Need-returns-4
 unfolding fieldsOf
-returns-4 c = let a = c .before .before .before .before .before .before .args in λ registers. stop-dry (a .word) (a .inputs .now) (machineAt registers (a .core) (a .history .now)) (a .spent) (c .before .before .before .if3 .left) (c .before .before .if4 .taken) (c .if5 .taken)
+returns-4 c = let a = c .before .before .before .before .before .args in λ registers. stop-dry (a .word) (a .inputs .now) (machineAt registers (a .core) (a .history .now)) (a .spent) (c .before .before .if3 .left) (c .before .if4 .taken) (c .if5 .taken)
 
 returns-5 : tie.Need-returns-5
 unfolding fieldsOf
-returns-5 c = let a = c .before .before .before .before .before .before .args in λ registers. go-input (a .word) (a .inputs .now) (machineAt registers (a .core) (a .history .now)) (a .spent) (c .before .before .before .if3 .left) (c .before .before .if4 .taken) (c .if5 .left)
+returns-5 c = let a = c .before .before .before .before .before .args in λ registers. go-input (a .word) (a .inputs .now) (machineAt registers (a .core) (a .history .now)) (a .spent) (c .before .before .if3 .left) (c .before .if4 .taken) (c .if5 .left)
 
 returns-6 : tie.Need-returns-6
 unfolding fieldsOf
-returns-6 c = let a = c .before .before .before .before .before .before .before .args in λ registers. stop-full (a .word) (a .inputs .now) (machineAt registers (a .core) (a .history .now)) (a .spent) (c .before .before .before .before .if3 .left) (c .before .before .if6 .taken) (c .if7 .taken)
+returns-6 c = let a = c .before .before .before .before .before .before .args in λ registers. stop-full (a .word) (a .inputs .now) (machineAt registers (a .core) (a .history .now)) (a .spent) (c .before .before .before .if3 .left) (c .before .if6 .taken) (c .if7 .taken)
 
 returns-7 : tie.Need-returns-7
 unfolding fieldsOf
-returns-7 c = let a = c .before .before .before .before .before .before .before .args in λ registers. go-present (a .word) (a .inputs .now) (machineAt registers (a .core) (a .history .now)) (a .spent) (c .before .before .before .before .if3 .left) (c .before .before .if6 .taken) (c .if7 .left)
+returns-7 c = let a = c .before .before .before .before .before .before .args in λ registers. go-present (a .word) (a .inputs .now) (machineAt registers (a .core) (a .history .now)) (a .spent) (c .before .before .before .if3 .left) (c .before .if6 .taken) (c .if7 .left)
 
 returns-8 : tie.Need-returns-8
 unfolding fieldsOf
