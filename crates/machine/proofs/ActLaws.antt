@@ -6,14 +6,14 @@
 use mathlib.Core.Path.{_≡_, refl, sym, ap, fun-ext, _∙_}
 use mathlib.Core.Bool.{Bool, true, false, cond, not, _&&_, _||_}
 use mathlib.Core.List.{List}
-use Prim.Native.Nat.{ℕ, suc, _+_, _-_, _*_, _/_, _%_, _≤_, _<_}
+use Prim.Native.Nat.{ℕ, _+_, _-_, _*_, _/_, _%_, _≤_, _<_}
 use native.Mathlib.Numerals.{add-one}
 use native.Mathlib.Omega.{arith}
-use lib.Dec.{ltb, eqb, leb}
+use lib.Dec.{eqb}
 use lib.ListN.{length, getD, set}
 use borrow.Author.Tests.{ltb-true, lt-ltb, le-ltb, le-leb, lt-leb}
 use Rattle.spec.specs.Logic.{registerOf}
-use Rattle.spec.specs.Script.{constant, copyOf, plus, nextInput, Condition, Instruction, halt, write, branch, goto, present, setWork, keep, Fields, fieldsOf, instructionOf, instructionRead}
+use Rattle.spec.specs.Script.{Condition, Instruction, halt, branch, Fields, fieldsOf, instructionOf, instructionRead}
 use Rattle.spec.specs.Machine.{Machine, machine, atLine, written, meets, move, stops, setBit, withState}
 use Rattle.spec.proofs.OpcodeLaws.{opcode-1, opcode-2, opcode-3, opcode-4, opcode-7, opcode-8, opcode-9, opcode-12}
 use Rattle.sets.specs.Sets.{Nodes, adding, removing}

@@ -1,23 +1,23 @@
 -- What stops a run, and how it goes on (`specs/Runs.antt`).
 --     stop-halted, stop-spent, stop-dry, stop-full, go-input, go-present, go-other    what comes before a step, by opcode
---     run-goes, line-goes         one turn of a run that nothing stops
---     Ends, run-ends              a run that something stops
---     Goes, turn-goes, turn-ends  a turn of the loop over a stored script, and its end
+--     goes-less                   where nothing stops a run, the budget is not spent
+--     Goes, turn-goes             a turn of the loop over a stored script that nothing stops
+--     reportAt, turn-ends         a turn that something stops
 -- Assumes nothing.
 use mathlib.Core.Path.{_≡_, refl, sym, ap, ap₂, _∙_}
-use mathlib.Core.Bool.{Bool, true, false, cond, not, _&&_, _||_}
+use mathlib.Core.Bool.{Bool, true, false, cond, _&&_}
 use mathlib.Core.Option.{Option, none, some}
 use mathlib.Core.List.{List}
-use Prim.Native.Nat.{ℕ, zero, suc, _+_, _-_, _*_, _/_, _≤_, _<_}
+use Prim.Native.Nat.{ℕ, suc, _+_, _-_, _*_, _/_, _≤_, _<_}
 use native.Mathlib.Numerals.{add-one}
 use native.Mathlib.Omega.{arith}
 use lib.Dec.{ltb, leb, eqb}
 use lib.ListN.{length, getD}
 use borrow.Author.Tests.{ltb-true, lt-ltb, le-ltb, le-leb, lt-leb, eqb-true, eqb-false}
-use Rattle.spec.specs.Questions.{Answer, passed, refused}
-use Rattle.spec.specs.Script.{constant, copyOf, plus, nextInput, Condition, Instruction, halt, write, branch, goto, present, setWork, keep, Code, instructionAt, Fields, fieldsOf, byOpcode, instructionOf, instructionRead, followersExist}
+use Rattle.spec.specs.Questions.{Answer, passed}
+use Rattle.spec.specs.Script.{Instruction, halt, write, branch, goto, present, setWork, keep, Code, instructionAt, Fields, fieldsOf, byOpcode, instructionOf, instructionRead, followersExist}
 use Rattle.spec.specs.Machine.{Machine, lacksSpace, meets, move, Stop, halted, spent, dry, full, stops, step, isHalted, Ended, endedAs, run, Report, reportOf}
-use Rattle.spec.proofs.BoolLaws.{and-both, clash}
+use Rattle.spec.proofs.BoolLaws.{and-both}
 use Rattle.spec.proofs.OpcodeLaws.{by-opcode, opcode-4, opcode-8}
 use Rattle.spec.specs.Rule.{form32}
 use Rattle.spec.specs.Check.{codeOf, linesOf}
@@ -105,6 +105,9 @@ goes true o e = let z : _≡_ {A = ℕ} 0 1 = cc in absurd (omega arith)
 goes false none e = (refl, refl)
 goes false (some s) e = let z : _≡_ {A = ℕ} 0 1 = cc in absurd (omega arith)
 
+pub goes-less : (n budget : ℕ) (o : Option Stop) → n ≤ budget → stopBefore (eqb n budget) o ≡ none → n < budget
+goes-less n budget o h e = let ne : n ≡ budget → ⊥ = eqb-false n budget (goes (eqb n budget) o e .0) in omega arith
+
 module _ (code : Code) (inputs : List ℕ) (m : Machine) (i : Instruction) (here : instructionAt code (m .line) ≡ i) (n budget : ℕ) where
   run-more : stops inputs i m ≡ none → (left : ℕ) → run (suc left) code inputs n m ≡ run left code inputs (suc n) (step code inputs m)
   unfolding run
@@ -114,22 +117,19 @@ module _ (code : Code) (inputs : List ℕ) (m : Machine) (i : Instruction) (here
   unfolding step acting
   step-here = ap (λ x. acting inputs x m) here
 
-  pub run-goes : n ≤ budget → stopBefore (eqb n budget) (stops inputs i m) ≡ none
-      → (n < budget) × ((after : Machine) → after ≡ acting inputs i m → run (budget - (n + 1)) code inputs (n + 1) after ≡ run (budget - n) code inputs n m)
-  run-goes h e =
-      let (unspent, free) = goes (eqb n budget) (stops inputs i m) e in
-      let ne : n ≡ budget → ⊥ = eqb-false n budget unspent in
-      let left : budget - n ≡ suc (budget - (n + 1)) = omega arith in (
-        omega arith,
-        λ after d. ap₂ (λ k x. run (budget - (n + 1)) code inputs k x) (add-one n) (d ∙ sym step-here) ∙ sym (run-more free (budget - (n + 1)))
-            ∙ ap (λ k. run k code inputs n m) (sym left),
-      )
+  run-goes : n ≤ budget → stopBefore (eqb n budget) (stops inputs i m) ≡ none → (after : Machine) → after ≡ acting inputs i m
+      → run (budget - (n + 1)) code inputs (n + 1) after ≡ run (budget - n) code inputs n m
+  run-goes h e after d =
+      let less = goes-less n budget (stops inputs i m) h e in
+      let left : budget - n ≡ suc (budget - (n + 1)) = omega arith in
+      ap₂ (λ k x. run (budget - (n + 1)) code inputs k x) (add-one n) (d ∙ sym step-here)
+      ∙ sym (run-more (goes (eqb n budget) (stops inputs i m) e .1) (budget - (n + 1))) ∙ ap (λ k. run k code inputs n m) (sym left)
 
   -- the run ends here, for the reason a
-  pub record Ends (e : Ended) (a : Answer Stop) : Type 0 where
-    pub reason : Stop
-    pub told : a ≡ passed reason
-    pub ended : e ≡ endedAs n m reason
+  record Ends (e : Ended) (a : Answer Stop) : Type 0 where
+    reason : Stop
+    told : a ≡ passed reason
+    ended : e ≡ endedAs n m reason
 
   ends-spent : (a : Answer Stop) → stopBefore true (stops inputs i m) ≡ some a → Ends (run 0 code inputs n m) a
   unfolding stopBefore run
@@ -147,7 +147,7 @@ module _ (code : Code) (inputs : List ℕ) (m : Machine) (i : Instruction) (here
       let left : budget - n ≡ suc (budget - (n + 1)) = omega arith in
       rw left (ends-stopped (budget - (n + 1)) a (stops inputs i m) refl e)
 
-  pub run-ends : n ≤ budget → (a : Answer Stop) → stopBefore (eqb n budget) (stops inputs i m) ≡ some a → Ends (run (budget - n) code inputs n m) a
+  run-ends : n ≤ budget → (a : Answer Stop) → stopBefore (eqb n budget) (stops inputs i m) ≡ some a → Ends (run (budget - n) code inputs n m) a
   run-ends h a e = ends-by (eqb n budget) refl h a e
 
 -- ---- the line after it
@@ -169,7 +169,7 @@ module _ (inputs : List ℕ) (m : Machine) (n : ℕ) (h : m .line < n) where
   move-in (setWork k b) e = ltb-true (suc (m .line)) n e
   move-in (keep k) e = ltb-true (suc (m .line)) n e
 
-  pub line-goes : (i : Instruction) (b : Bool) → followersExist n (m .line) i ≡ true → stopBefore b (stops inputs i m) ≡ none → acting inputs i m .line < n
+  line-goes : (i : Instruction) (b : Bool) → followersExist n (m .line) i ≡ true → stopBefore b (stops inputs i m) ≡ none → acting inputs i m .line < n
   unfolding acting
   line-goes i b e d = rw (goes b (stops inputs i m) d .1) (move-in i e)
 
@@ -194,18 +194,15 @@ module _ (ws inputs : List ℕ) (m : Machine) (n budget : ℕ) where
 
   -- nothing stops it, and `after` is the machine after it
   pub record Goes (after : Machine) : Type 0 where
-    pub less : n < budget
     pub line : after .line < length ws / 8
     pub same : run (budget - (n + 1)) code inputs (n + 1) after ≡ run (budget - n) code inputs n m
 
   module _ (script : Runnable ws) (h : m .line < length ws / 8) (le : n ≤ budget) where
     pub turn-goes : stopBefore (eqb n budget) (stops inputs here m) ≡ none → (after : Machine) → after ≡ acting inputs here m → Goes after
-    turn-goes e after d =
-        let (less, same) = run-goes code inputs m here (instruction-at ws (m .line) h) n budget le e in record {
-          less = less;
-          line = rw d (line-goes inputs m (length ws / 8) h here (eqb n budget) (script .follow (m .line) h) e);
-          same = same after d;
-        }
+    turn-goes e after d = record {
+      line = rw d (line-goes inputs m (length ws / 8) h here (eqb n budget) (script .follow (m .line) h) e);
+      same = run-goes code inputs m here (instruction-at ws (m .line) h) n budget le e after d;
+    }
 
     pub turn-ends : (a : Answer Stop) → stopBefore (eqb n budget) (stops inputs here m) ≡ some a → (e : Ended) → run (budget - n) code inputs n m ≡ e
         → (reportAt n m a ≡ reportOf (passed e)) × (m .history ≡ e .final .history)

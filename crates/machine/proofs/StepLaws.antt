@@ -5,15 +5,15 @@
 --     step-not, step-is          a step is what its instruction does, and nothing where the line cannot be run
 -- Assumes nothing.
 use mathlib.Core.Path.{_≡_, refl, sym, ap, _∙_}
-use mathlib.Core.Bool.{Bool, true, false, _&&_}
+use mathlib.Core.Bool.{true, false, _&&_}
 use mathlib.Core.List.{List}
 use Prim.Native.Nat.{ℕ, _*_, _/_, _≤_, _<_}
 use native.Mathlib.Omega.{arith}
 use lib.Dec.{ltb, leb}
 use lib.ListN.{length, getD, take, length-take, List·getD-map}
 use borrow.Author.Tests.{ltb-true, lt-ltb, le-ltb}
-use Rattle.spec.specs.Rule.{form32, Table, tableOf, nodeAt, isPast}
-use Rattle.spec.specs.Script.{Source, Condition, Instruction, halt, write, branch, goto, present, setWork, keep, instructionAt, instructionRead, annotatedOpcode, namesAllowed, lineAllowed}
+use Rattle.spec.specs.Rule.{form32, Table, tableOf}
+use Rattle.spec.specs.Script.{Instruction, halt, write, branch, goto, present, setWork, keep, instructionAt, instructionRead, annotatedOpcode, namesAllowed, lineAllowed}
 use Rattle.spec.specs.Facts.{noFacts}
 use Rattle.spec.specs.Check.{Line, codeOf, linesOf, annotatedStored}
 use Rattle.spec.specs.Machine.{Machine, step, tableWithin, canRun, stepOf}

@@ -1,9 +1,9 @@
 -- This crate's machines as the specification's, and what an instruction does to one.
-use mathlib.Core.Bool.{Bool, true, false}
+use mathlib.Core.Bool.{Bool, true}
 use mathlib.Core.List.{List}
 use Prim.Native.Nat.{ℕ}
 use lib.Dec.{ltb}
-use Rattle.spec.specs.Script.{Source, Condition, Instruction, halt, write, branch, goto, present, setWork, keep, sourceAllowed}
+use Rattle.spec.specs.Script.{Instruction, halt, write, branch, goto, present, setWork, keep, sourceAllowed}
 use Rattle.spec.specs.Machine as spec
 use Rattle.spec.specs.Machine.{machine, stops, unlessStopped, move}
 use Rattle.sets.specs.Sets.{capacity, setOf}

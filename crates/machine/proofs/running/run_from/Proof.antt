@@ -1,31 +1,23 @@
 -- `machine::running::run_from` meets its contract. The loop keeps: the line is there, and the run that is left of the budget from
 -- here is the whole run. The measure is what is left of the budget. Assumes nothing.
-use Prim.Native.Nat.{ℕ, _+_, _-_, _*_, _/_, _≤_, _<_}
+use Prim.Native.Nat.{ℕ, _-_, _/_, _≤_, _<_}
 use mathlib.Core.Path.{_≡_, refl, sym, ap, _∙_}
 use mathlib.Core.List.{List}
-use mathlib.Core.Option.{none, some}
 use native.Mathlib.Omega.{arith}
-use lib.Dec.{eqb}
-use lib.ListN.{length, getD}
-use Rattle.spec.specs.Questions.{passed}
+use lib.ListN.{length}
 use Rattle.spec.specs.Rule.{form32}
-use Rattle.spec.specs.Script.{Code, Instruction, instructionRead}
+use Rattle.spec.specs.Script.{Code}
 use Rattle.spec.specs.Check.{codeOf, linesOf}
-use Rattle.spec.specs.Machine.{Machine, Ended, run, stops, reportOf}
-use Rattle.machine.specs.declared.act.Core.{Core}
+use Rattle.spec.specs.Machine.{run}
 use Rattle.machine.specs.Machines.{machineAt}
-use Rattle.machine.specs.Runs.{nextOf, stopOf, stopBefore, runFrom}
-use Rattle.machine.proofs.StepLaws.{instruction-at}
-use Rattle.machine.proofs.RunLaws.{turn-goes, turn-ends}
+use Rattle.machine.specs.Runs.{nextOf, runFrom}
+use Rattle.machine.proofs.RunLaws.{goes-less, turn-goes, turn-ends}
 use borrow.Author.Needs.{needs}
 use Rattle.machine.proofs.running.run_from.Statement.{statement}
 use Rattle.machine.proofs.running.run_from.Tie as tie
 
 abbrev code : List ℕ → Code
 code ws = codeOf (linesOf form32 ws)
-
-abbrev at : List ℕ → ℕ → Instruction
-at ws l = instructionRead (getD ws (8 * l) 0)
 
 abbrev Inv-loop : tie.InvT-loop
 Inv-loop kept script inputs budget history₀ registers₀ core₀ steps₀ history registers core steps =
@@ -67,28 +59,23 @@ advance-requires c κs =
 
 add-steps : tie.Need-add-steps Inv-loop μ-loop
 add-steps c =
-    let a = c .before .before .before .before .before .before .before .before .before .before .before .before .before .before .args in
     let l = c .before .before .before .before .before .before .before .before .before .before .loop in
-    let g = turn-goes (a .script .now) (a .inputs .now) (machineAt (l .registers) (l .core) (l .history)) (l .steps) (a .budget) (c .before .before .before .before .before .before .before .before .before .before .before .before .before .before .pre) (l .inv .0) (l .inv .1)
-    (sym (c .before .before .before .before .before .before .before .before-step .ensures (l .registers)) ∙ ap nextOf (c .before .before .before .before .before .enum-told .given .1)) _ (c .before .before .advance .ensures) in
-    omega (arith, g .less)
+    omega (arith, goes-less (l .steps) (c .before .before .before .before .before .before .before .before .before .before .before .before .before .before .args .budget) _ (l .inv .1) (sym (c .before .before .before .before .before .before .before .before-step .ensures (l .registers)) ∙ ap nextOf (c .before .before .before .before .before .enum-told .given .1)))
 
 loop-less : tie.Need-loop-less Inv-loop μ-loop
 loop-less c =
-    let a = c .before .before .before .before .before .before .before .before .before .before .before .before .before .before .args in
     let l = c .before .before .before .before .before .before .before .before .before .before .loop in
-    let g = turn-goes (a .script .now) (a .inputs .now) (machineAt (l .registers) (l .core) (l .history)) (l .steps) (a .budget) (c .before .before .before .before .before .before .before .before .before .before .before .before .before .before .pre) (l .inv .0) (l .inv .1)
-    (sym (c .before .before .before .before .before .before .before .before-step .ensures (l .registers)) ∙ ap nextOf (c .before .before .before .before .before .enum-told .given .1)) _ (c .before .before .advance .ensures) in
-    omega (arith, g .less)
+    omega (arith, goes-less (l .steps) (c .before .before .before .before .before .before .before .before .before .before .before .before .before .before .args .budget) _ (l .inv .1) (sym (c .before .before .before .before .before .before .before .before-step .ensures (l .registers)) ∙ ap nextOf (c .before .before .before .before .before .enum-told .given .1)))
 
 loop-again : tie.Need-loop-again Inv-loop μ-loop
 loop-again c =
     let a = c .before .before .before .before .before .before .before .before .before .before .before .before .before .before .args in
     let l = c .before .before .before .before .before .before .before .before .before .before .loop in
-    let g = turn-goes (a .script .now) (a .inputs .now) (machineAt (l .registers) (l .core) (l .history)) (l .steps) (a .budget) (c .before .before .before .before .before .before .before .before .before .before .before .before .before .before .pre) (l .inv .0) (l .inv .1)
-    (sym (c .before .before .before .before .before .before .before .before-step .ensures (l .registers)) ∙ ap nextOf (c .before .before .before .before .before .enum-told .given .1)) _ (c .before .before .advance .ensures) in (
+    let m = machineAt (l .registers) (l .core) (l .history) in
+    let stop = sym (c .before .before .before .before .before .before .before .before-step .ensures (l .registers)) ∙ ap nextOf (c .before .before .before .before .before .enum-told .given .1) in
+    let g = turn-goes (a .script .now) (a .inputs .now) m (l .steps) (a .budget) (c .before .before .before .before .before .before .before .before .before .before .before .before .before .before .pre) (l .inv .0) (l .inv .1) stop _ (c .before .before .advance .ensures) in (
       g .line,
-      omega (arith, g .less),
+      omega (arith, goes-less (l .steps) (a .budget) _ (l .inv .1) stop),
       c .before .before .advance .kept .1 .1 .1 .1 .0 ∙ l .inv .2,
       g .same ∙ l .inv .3,
     )
