@@ -1,11 +1,10 @@
 -- What stops a run, and how it goes on (`specs/Runs.antt`).
 --     stop-halted, stop-spent, stop-dry, stop-full, go-input, go-present, go-other    what comes before a step, by opcode
---     goes-less                   where nothing stops a run, the budget is not spent
---     Goes, turn-goes             a turn of the loop over a stored script that nothing stops
---     reportAt, turn-ends         a turn that something stops
+--     stopping, Goes, turn-less, turn-goes    a turn of the loop over a stored script that nothing stops
+--     reportAt, turn-ends                     a turn that something stops
 -- Assumes nothing.
 use mathlib.Core.Path.{_≡_, refl, sym, ap, ap₂, _∙_}
-use mathlib.Core.Bool.{Bool, true, false, cond, _&&_}
+use mathlib.Core.Bool.{Bool, true, false, cond}
 use mathlib.Core.Option.{Option, none, some}
 use mathlib.Core.List.{List}
 use Prim.Native.Nat.{ℕ, suc, _+_, _-_, _*_, _/_, _≤_, _<_}
@@ -105,8 +104,8 @@ goes true o e = let z : _≡_ {A = ℕ} 0 1 = cc in absurd (omega arith)
 goes false none e = (refl, refl)
 goes false (some s) e = let z : _≡_ {A = ℕ} 0 1 = cc in absurd (omega arith)
 
-pub goes-less : (n budget : ℕ) (o : Option Stop) → n ≤ budget → stopBefore (eqb n budget) o ≡ none → n < budget
-goes-less n budget o h e = let ne : n ≡ budget → ⊥ = eqb-false n budget (goes (eqb n budget) o e .0) in omega arith
+unspent : (n budget : ℕ) (o : Option Stop) → n ≤ budget → stopBefore (eqb n budget) o ≡ none → n < budget
+unspent n budget o h e = let ne : n ≡ budget → ⊥ = eqb-false n budget (goes (eqb n budget) o e .0) in omega arith
 
 module _ (code : Code) (inputs : List ℕ) (m : Machine) (i : Instruction) (here : instructionAt code (m .line) ≡ i) (n budget : ℕ) where
   run-more : stops inputs i m ≡ none → (left : ℕ) → run (suc left) code inputs n m ≡ run left code inputs (suc n) (step code inputs m)
@@ -120,7 +119,7 @@ module _ (code : Code) (inputs : List ℕ) (m : Machine) (i : Instruction) (here
   run-goes : n ≤ budget → stopBefore (eqb n budget) (stops inputs i m) ≡ none → (after : Machine) → after ≡ acting inputs i m
       → run (budget - (n + 1)) code inputs (n + 1) after ≡ run (budget - n) code inputs n m
   run-goes h e after d =
-      let less = goes-less n budget (stops inputs i m) h e in
+      let less = unspent n budget (stops inputs i m) h e in
       let left : budget - n ≡ suc (budget - (n + 1)) = omega arith in
       ap₂ (λ k x. run (budget - (n + 1)) code inputs k x) (add-one n) (d ∙ sym step-here)
       ∙ sym (run-more (goes (eqb n budget) (stops inputs i m) e .1) (budget - (n + 1))) ∙ ap (λ k. run k code inputs n m) (sym left)
@@ -185,29 +184,37 @@ reportAt n m a = record {
   inputsRead = m .inputsRead;
 }
 
-module _ (ws inputs : List ℕ) (m : Machine) (n budget : ℕ) where
-  abbrev code : Code
-  code = codeOf (linesOf form32 ws)
+-- what stops the instruction that m stands at
+abbrev pub stopping : (script inputs : List ℕ) → Machine → Option Stop
+stopping ws inputs m = stops inputs (instructionRead (getD ws (8 * m .line) 0)) m
 
-  abbrev here : Instruction
-  here = instructionRead (getD ws (8 * m .line) 0)
+abbrev code : List ℕ → Code
+code ws = codeOf (linesOf form32 ws)
 
-  -- nothing stops it, and `after` is the machine after it
-  pub record Goes (after : Machine) : Type 0 where
-    pub line : after .line < length ws / 8
-    pub same : run (budget - (n + 1)) code inputs (n + 1) after ≡ run (budget - n) code inputs n m
+-- m goes on as `after`: a line of the script, from which what is left of the budget makes the same run
+pub record Goes (ws inputs : List ℕ) (m : Machine) (n budget : ℕ) (after : Machine) : Type 0 where
+  pub line : after .line < length ws / 8
+  pub same : run (budget - (n + 1)) (code ws) inputs (n + 1) after ≡ run (budget - n) (code ws) inputs n m
 
-  module _ (script : Runnable ws) (h : m .line < length ws / 8) (le : n ≤ budget) where
-    pub turn-goes : stopBefore (eqb n budget) (stops inputs here m) ≡ none → (after : Machine) → after ≡ acting inputs here m → Goes after
+module _ (ws inputs : List ℕ) (m : Machine) (n budget : ℕ) (le : n ≤ budget)
+    (x : Option (Answer Stop)) (told : x ≡ stopBefore (eqb n budget) (stopping ws inputs m)) where
+  pub turn-less : x ≡ none → n < budget
+  turn-less e = unspent n budget (stopping ws inputs m) le (sym told ∙ e)
+
+  module _ (script : Runnable ws) (h : m .line < length ws / 8) where
+    abbrev here : Instruction
+    here = instructionRead (getD ws (8 * m .line) 0)
+
+    pub turn-goes : x ≡ none → (after : Machine) → after ≡ acting inputs here m → Goes ws inputs m n budget after
     turn-goes e after d = record {
-      line = rw d (line-goes inputs m (length ws / 8) h here (eqb n budget) (script .follow (m .line) h) e);
-      same = run-goes code inputs m here (instruction-at ws (m .line) h) n budget le e after d;
+      line = rw d (line-goes inputs m (length ws / 8) h here (eqb n budget) (script .follow (m .line) h) (sym told ∙ e));
+      same = run-goes (code ws) inputs m here (instruction-at ws (m .line) h) n budget le (sym told ∙ e) after d;
     }
 
-    pub turn-ends : (a : Answer Stop) → stopBefore (eqb n budget) (stops inputs here m) ≡ some a → (e : Ended) → run (budget - n) code inputs n m ≡ e
+    pub turn-ends : (a : Answer Stop) → x ≡ some a → (e : Ended) → run (budget - n) (code ws) inputs n m ≡ e
         → (reportAt n m a ≡ reportOf (passed e)) × (m .history ≡ e .final .history)
     turn-ends a d e same =
-        let ends = run-ends code inputs m here (instruction-at ws (m .line) h) n budget le a d in
+        let ends = run-ends (code ws) inputs m here (instruction-at ws (m .line) h) n budget le a (sym told ∙ d) in
         let q : e ≡ endedAs n m (ends .reason) = sym same ∙ ends .ended in (
           ap (reportAt n m) (ends .told) ∙ ap (λ x. reportOf (passed x)) (sym q),
           ap (λ (x : Ended). x .final .history) (sym q),

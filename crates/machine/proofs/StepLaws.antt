@@ -5,7 +5,7 @@
 --     step-not, step-is          a step is what its instruction does, and nothing where the line cannot be run
 -- Assumes nothing.
 use mathlib.Core.Path.{_≡_, refl, sym, ap, _∙_}
-use mathlib.Core.Bool.{true, false, _&&_}
+use mathlib.Core.Bool.{true, false}
 use mathlib.Core.List.{List}
 use Prim.Native.Nat.{ℕ, _*_, _/_, _≤_, _<_}
 use native.Mathlib.Omega.{arith}
@@ -78,13 +78,8 @@ module _ (rule ws inputs : List ℕ) (m : Machine) where
   unfolding stepOf
   step-not e = rw e
 
-  -- the step of a line that is there
-  pub step-acts : m .line < length ws / 8
-      → step (codeOf (linesOf form32 ws)) inputs m ≡ acting inputs (instructionRead (getD ws (8 * m .line) 0)) m
-  unfolding step acting
-  step-acts h = ap (λ i. acting inputs i m) (instruction-at ws (m .line) h)
-
-  pub step-is : canRun form32 rule ws (m .line) ≡ true
-      → stepOf form32 rule ws inputs m ≡ acting inputs (instructionRead (getD ws (8 * m .line) 0)) m
-  unfolding stepOf
-  step-is e = rw e (step-acts (can-out ws (m .line) rule e .0))
+  pub step-is : canRun form32 rule ws (m .line) ≡ true → (after : Machine) → after ≡ acting inputs (instructionRead (getD ws (8 * m .line) 0)) m
+      → after ≡ stepOf form32 rule ws inputs m
+  unfolding stepOf step acting
+  step-is e after d =
+      let here = instruction-at ws (m .line) (can-out ws (m .line) rule e .0) in rw e (d ∙ ap (λ i. acting inputs i m) (sym here))

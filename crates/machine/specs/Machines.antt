@@ -18,10 +18,6 @@ machineOf m h = machine (m .line) (m .registers) (setOf (m .kept)) (setOf (m .wo
 abbrev pub machineAt : List ℕ → Core → List ℕ → spec.Machine
 machineAt registers k h = machine (k .line) registers (setOf (k .kept)) (setOf (k .work)) (k .presentations) (k .reads) h
 
--- a machine but for its registers
-abbrev pub coreOf : Machine → Core
-coreOf m = record { kept = m .kept; work = m .work; line = m .line; presentations = m .presentations; reads = m .reads }
-
 -- the instruction that a machine stands at, done; nothing where it stops
 unfoldable pub acting : (inputs : List ℕ) → Instruction → spec.Machine → spec.Machine
 acting inputs i m = unlessStopped (stops inputs i m) m (move inputs i m)

@@ -14,7 +14,7 @@ ghost use mathlib.Core.List.{List};
 ghost use Prim.Native.Nat.{ℕ};
 ghost use Rattle.spec.specs.Rule.{form32};
 ghost use Rattle.spec.specs.Machine.{freshOf, canRun, stepOf, running, reportOf, historyAfter};
-ghost use Rattle.machine.specs.Machines.{machineOf, coreOf};
+ghost use Rattle.machine.specs.Machines.{machineOf};
 ghost use Rattle.machine.specs.Runs.{reportIn};
 
 mod act;
@@ -64,13 +64,14 @@ impl Machine {
             return self;
         }
         let mut registers = self.registers;
-        let core = advance(
-            &mut registers,
-            self.core(),
-            script[8 * line],
-            inputs,
-            history,
-        );
+        let before = Core {
+            kept: self.kept,
+            work: self.work,
+            line,
+            presentations: self.presentations,
+            reads: self.reads,
+        };
+        let core = advance(&mut registers, before, script[8 * line], inputs, history);
         Machine {
             registers,
             kept: core.kept,
@@ -78,18 +79,6 @@ impl Machine {
             line: core.line,
             presentations: core.presentations,
             reads: core.reads,
-        }
-    }
-
-    fn core(self) -> Core
-        ensures { λ r. ⌜ r ≡ coreOf self ⌝ }
-    {
-        Core {
-            kept: self.kept,
-            work: self.work,
-            line: self.line,
-            presentations: self.presentations,
-            reads: self.reads,
         }
     }
 }
