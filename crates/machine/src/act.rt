@@ -50,6 +50,7 @@ fn store(registers: [u16; 16], n: usize, history: &mut [u16])
 }
 
 // The instruction at the machine's line, done. Halt, an input where none is left, a present without room: nothing changes.
+// c is a constant, or names a register or a node.
 pub fn advance(
     registers: &mut [u16; 16],
     mut core: Core,
@@ -62,21 +63,22 @@ pub fn advance(
 {
     let opcode = word / 268435456 % 16;
     let r = (word / 16777216 % 16) as usize;
-    let c = (word / 1024 % 16384) as usize;
+    let constant = (word / 1024 % 16384) as u16;
+    let named = (word / 1024 % 16384) as usize;
     let target = (word % 1024) as usize;
-    let next = core.line + 1;
+    let mut next = core.line + 1;
     match opcode {
         0 => {
             return core;
         }
         1 => {
-            registers[r] = (word / 1024 % 16384) as u16;
+            registers[r] = constant;
         }
         2 => {
-            registers[r] = registers[c];
+            registers[r] = registers[named];
         }
         3 => {
-            registers[r] = sum(registers[r], (word / 1024 % 16384) as u16);
+            registers[r] = sum(registers[r], constant);
         }
         4 => {
             let n = core.reads;
@@ -87,20 +89,17 @@ pub fn advance(
             core.reads = n + 1;
         }
         5 => {
-            if registers[r] == (word / 1024 % 16384) as u16 {
-                core.line = target;
-                return core;
+            if registers[r] == constant {
+                next = target;
             }
         }
         6 => {
-            if registers[r] < (word / 1024 % 16384) as u16 {
-                core.line = target;
-                return core;
+            if registers[r] < constant {
+                next = target;
             }
         }
         7 => {
-            core.line = target;
-            return core;
+            next = target;
         }
         8 => {
             let n = core.presentations;
@@ -111,22 +110,20 @@ pub fn advance(
             core.presentations = n + 1;
         }
         9 => {
-            core.work = set_bit(core.work, c, r == 1);
+            core.work = set_bit(core.work, named, r == 1);
         }
         10 => {
-            if has(core.kept, c) {
-                core.line = target;
-                return core;
+            if has(core.kept, named) {
+                next = target;
             }
         }
         11 => {
-            if has(core.work, c) {
-                core.line = target;
-                return core;
+            if has(core.work, named) {
+                next = target;
             }
         }
         12 => {
-            core.kept = set_bit(core.kept, c, has(core.work, c));
+            core.kept = set_bit(core.kept, named, has(core.work, named));
         }
         _ => {
             return core;
