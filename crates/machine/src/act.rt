@@ -13,7 +13,7 @@ ghost use Rattle.sets.specs.Sets.{capacity, setOf};
 ghost use Rattle.machine.specs.Machines.{machineAt, acting, namesHeld};
 
 // A machine but for its registers.
-pub struct Core {
+pub(crate) struct Core {
     pub kept: u64,
     pub work: u64,
     pub line: usize,
@@ -51,7 +51,7 @@ fn store(registers: [u16; 16], n: usize, history: &mut [u16])
 
 // The instruction at the machine's line, done. Halt, an input where none is left, a present without room: nothing changes.
 // c is a constant, or names a register or a node.
-pub fn advance(
+pub(crate) fn advance(
     registers: &mut [u16; 16],
     mut core: Core,
     word: u32,

@@ -13,7 +13,7 @@ ghost use Rattle.machine.specs.Machines.{machineAt};
 ghost use Rattle.machine.specs.Runs.{reportIn, nextOf, stopBefore, Runnable, runFrom};
 
 // What comes next in a run.
-pub enum Next {
+pub(crate) enum Next {
     Going,
     Stopped(Stop),
 }
@@ -50,7 +50,7 @@ fn before_step(core: Core, word: u32, inputs: &[u16], history: &[u16], spent: bo
 }
 
 // A refused answer: every other number is 0.
-pub fn refuse(question: u32, place: usize) -> RunAnswer
+pub(crate) fn refuse(question: u32, place: usize) -> RunAnswer
     ensures { λ r. ⌜ reportIn r ≡ reportOf (refused question place) ⌝ }
 {
     RunAnswer {
@@ -64,7 +64,7 @@ pub fn refuse(question: u32, place: usize) -> RunAnswer
 }
 
 // A run of an accepted script from line 0 with these kept bits. What question 6 asks of a line is not asked again at each step.
-pub fn run_from(
+pub(crate) fn run_from(
     kept: u64,
     script: &[u32],
     inputs: &[u16],
