@@ -14,12 +14,12 @@ use lib.Dec.{ltb, leb, eqb}
 use lib.ListN.{length, getD}
 use borrow.Author.Tests.{ltb-true, lt-ltb, le-ltb, le-leb, lt-leb, eqb-true, eqb-false}
 use Rattle.spec.specs.Questions.{Answer, passed}
+use Rattle.spec.specs.Rule.{form32}
 use Rattle.spec.specs.Script.{Instruction, halt, write, branch, goto, present, setWork, keep, Code, instructionAt, Fields, fieldsOf, byOpcode, instructionOf, instructionRead, followersExist}
+use Rattle.spec.specs.Check.{codeOf, linesOf}
 use Rattle.spec.specs.Machine.{Machine, lacksSpace, meets, move, Stop, halted, spent, dry, full, stops, step, isHalted, Ended, endedAs, run, Report, reportOf}
 use Rattle.spec.proofs.BoolLaws.{and-both}
 use Rattle.spec.proofs.OpcodeLaws.{by-opcode, opcode-4, opcode-8}
-use Rattle.spec.specs.Rule.{form32}
-use Rattle.spec.specs.Check.{codeOf, linesOf}
 use Rattle.machine.specs.Machines.{acting}
 use Rattle.machine.specs.Runs.{stopBefore, Runnable}
 use Rattle.machine.proofs.StepLaws.{instruction-at}

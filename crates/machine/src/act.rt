@@ -6,7 +6,6 @@ ghost use mathlib.Core.Path.{_≡_};
 ghost use mathlib.Core.Bool.{true};
 ghost use Prim.Native.Nat.{_+_, _/_, _%_, _<_};
 ghost use lib.ListN.{length};
-ghost use Rattle.spec.specs.Logic.{largestValue};
 ghost use Rattle.spec.specs.Script.{instructionRead};
 ghost use Rattle.spec.specs.Machine.{setBit, withState};
 ghost use Rattle.sets.specs.Sets.{capacity, setOf};
