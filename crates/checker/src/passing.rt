@@ -51,13 +51,14 @@ fn no_facts() -> Facts
 fn drop_values(x: Facts) -> Facts
     ensures { λ r. ⌜ factsOf r ≡ factsOf x ∖ every (valueIs true) ∖ every (valueIs false) ∖ every workIsNext ⌝ }
 {
+    let dropped = 0;
     Facts {
-        t: 0,
-        f: 0,
+        t: dropped,
+        f: dropped,
         a: x.a,
         b: x.b,
         m: x.m,
-        w: 0,
+        w: dropped,
         c: x.c,
     }
 }

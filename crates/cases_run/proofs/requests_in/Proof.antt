@@ -1,10 +1,10 @@
--- `rule_run::requests_in` is safe and ends: each request starts after the one before. Assumes nothing.
+-- `cases_run::requests_in` is safe and ends: each request starts after the one before. Assumes nothing.
 use borrow.Author.Needs.{needs}
 use Prim.Native.Nat.{_-_, _≤_, _/_}
 use native.Mathlib.Omega.{arith}
 use lib.ListN.{length}
-use Rattle.rule_run.proofs.requests_in.Statement.{statement}
-use Rattle.rule_run.proofs.requests_in.Tie as tie
+use Rattle.cases_run.proofs.requests_in.Statement.{statement}
+use Rattle.cases_run.proofs.requests_in.Tie as tie
 
 abbrev Inv-loop : tie.InvT-loop
 Inv-loop s at₀ at = Unit {0}

@@ -1,19 +1,13 @@
--- `rule_run::answer` is safe and ends. Assumes nothing.
+-- `cases_run::answer_history` is safe and ends. Assumes nothing.
 use mathlib.Core.Path.{sym}
 use lib.Seq.{length-take-le}
 use native.Mathlib.Omega.{arith}
 use borrow.Author.Needs.{needs}
-use Rattle.rule_run.proofs.answer.Statement.{statement}
-use Rattle.rule_run.proofs.answer.Tie as tie
+use Rattle.cases_run.proofs.answer_history.Statement.{statement}
+use Rattle.cases_run.proofs.answer_history.Tie as tie
 
 returns : tie.Need-returns
 returns c = search needs
-
-returns-2 : tie.Need-returns-2
-returns-2 c = search needs
-
-slice-aggregate-r : tie.Need-slice-aggregate-r
-slice-aggregate-r c = sym (length-take-le _ _ (omega arith))
 
 slice-aggregate-h : tie.Need-slice-aggregate-h
 slice-aggregate-h c = sym (length-take-le _ _ (omega arith))
@@ -39,16 +33,14 @@ judge-requires c κs = search needs
 print-numbers-requires : tie.Need-print-numbers-requires
 print-numbers-requires c κs = search needs
 
-returns-3 : tie.Need-returns-3
-returns-3 c = search needs
+returns-2 : tie.Need-returns-2
+returns-2 c = search needs
 
-pub answer-spec : {M : Type 1} → statement M
-answer-spec =
+pub answer-history-spec : {M : Type 1} → statement M
+answer-history-spec =
     tie.close
     (tie.spec
     returns
-    returns-2
-    slice-aggregate-r
     slice-aggregate-h
     check-rule-requires
     print-answer-requires
@@ -57,4 +49,4 @@ answer-spec =
     slice-aggregate-print-numbers
     judge-requires
     print-numbers-requires
-    returns-3)
+    returns-2)

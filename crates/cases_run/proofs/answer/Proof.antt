@@ -1,0 +1,60 @@
+-- `cases_run::answer` is safe and ends. Assumes nothing.
+use mathlib.Core.Path.{sym}
+use lib.Seq.{length-take-le}
+use native.Mathlib.Omega.{arith}
+use borrow.Author.Needs.{needs}
+use Rattle.cases_run.proofs.answer.Statement.{statement}
+use Rattle.cases_run.proofs.answer.Tie as tie
+
+returns : tie.Need-returns
+returns c = search needs
+
+slice-aggregate-r : tie.Need-slice-aggregate-r
+slice-aggregate-r c = sym (length-take-le _ _ (omega arith))
+
+slice-aggregate-load-numbers : tie.Need-slice-aggregate-load-numbers
+slice-aggregate-load-numbers c = search needs
+
+load-numbers-requires : tie.Need-load-numbers-requires
+load-numbers-requires c κs = search needs
+
+slice-aggregate-answer-history : tie.Need-slice-aggregate-answer-history
+slice-aggregate-answer-history c = search needs
+
+answer-history-requires : tie.Need-answer-history-requires
+answer-history-requires c κs = search needs
+
+slice-aggregate-load-words : tie.Need-slice-aggregate-load-words
+slice-aggregate-load-words c = search needs
+
+load-words-requires : tie.Need-load-words-requires
+load-words-requires c κs = search needs
+
+slice-aggregate-answer-script : tie.Need-slice-aggregate-answer-script
+slice-aggregate-answer-script c = search needs
+
+answer-script-requires : tie.Need-answer-script-requires
+answer-script-requires c κs = search needs
+
+returns-2 : tie.Need-returns-2
+returns-2 c = search needs
+
+returns-3 : tie.Need-returns-3
+returns-3 c = search needs
+
+pub answer-spec : {M : Type 1} → statement M
+answer-spec =
+    tie.close
+    (tie.spec
+    returns
+    slice-aggregate-r
+    slice-aggregate-load-numbers
+    load-numbers-requires
+    slice-aggregate-answer-history
+    answer-history-requires
+    slice-aggregate-load-words
+    load-words-requires
+    slice-aggregate-answer-script
+    answer-script-requires
+    returns-2
+    returns-3)

@@ -1,0 +1,117 @@
+// Runs the entry points on requests from standard input, and prints what they answer.
+// A request is words of 32 bits, high byte first: kind, node count, nodes, word count, words. Kind 1 asks about the rule and a history,
+// a number a word; kind 2 about the rule and a script; a 0 in place of a kind is skipped. A count out of the buffers' range ends a block.
+use requests::load_numbers;
+use requests::load_words;
+use requests::print_answer;
+use requests::print_number;
+use requests::print_numbers;
+use requests::print_refused;
+use requests::say;
+use rule::answer::Verdict;
+use words::word_at;
+ghost use Prim.Native.Nat.{_<_, _≤_};
+
+fn print_verdict(v: Verdict) {
+    match v {
+        Verdict::Refused { question, place } => print_refused(question, place),
+        Verdict::Breach(index) => {
+            say(b"breach");
+            print_number(index);
+            say(b"\n");
+        }
+        Verdict::Clean(states) => {
+            say(b"clean");
+            print_number(states);
+            say(b"\n");
+        }
+    }
+}
+
+fn answer_history(rule: &[u32], history: &[u16], numbers: usize) {
+    if history.len() < numbers {
+        return;
+    }
+    let h = &history[..numbers];
+    print_answer(rule::check_rule(rule));
+    print_verdict(rule::verdict(rule, h));
+    print_numbers(b"part", rule::judge(rule, h));
+}
+
+fn answer_script(rule: &[u32], script: &[u32], count: usize) {
+    if script.len() < count {
+        return;
+    }
+    let s = &script[..count];
+    say(b"bare ");
+    print_answer(script::check_bare(rule, s));
+    say(b"script ");
+    print_answer(checker::check_script(rule, s));
+}
+
+// What the entry points answer on the first nodes of the buffer and the `count` words from `at` on.
+fn answer(s: &[u8], kind: u32, rule: &[u32], nodes: usize, at: usize, count: usize)
+    requires { ⌜ (at ≤ 100000) × (count ≤ 16384) ⌝ }
+{
+    if rule.len() < nodes {
+        return;
+    }
+    let r = &rule[..nodes];
+    if kind == 1 {
+        let mut history = [0u16; 16384];
+        load_numbers(s, at, count, &mut history);
+        answer_history(r, &history, count);
+    } else {
+        let mut script = [0u32; 16384];
+        load_words(s, at, count, &mut script);
+        answer_script(r, &script, count);
+    }
+}
+
+// The request that starts at word `at`, and where the next one starts.
+fn request(s: &[u8], at: usize) -> usize
+    requires { ⌜ at < 16384 ⌝ }
+    ensures { λ r. ⌜ at < r ⌝ }
+{
+    let kind = word_at(s, at);
+    if kind == 0 {
+        return at + 1;
+    }
+    let nodes = word_at(s, at + 1) as usize;
+    if 64 < nodes {
+        return 100000;
+    }
+    let count = word_at(s, at + 2 + nodes) as usize;
+    if 16384 < count {
+        return 100000;
+    }
+    let mut rule = [0u32; 64];
+    load_words(s, at + 2, nodes, &mut rule);
+    answer(s, kind, &rule, nodes, at + 3 + nodes, count);
+    at + 3 + nodes + count
+}
+
+// Every request in the bytes, one after another.
+fn requests_in(s: &[u8]) {
+    let mut at = 0;
+    while at < s.len() / 4 {
+        if 16384 <= at {
+            return;
+        }
+        at = request(s, at);
+    }
+}
+
+// What the input holds comes in blocks of 65,536 bytes, and no request goes over the end of one.
+fn main() {
+    let mut bytes = io::large_buffer();
+    let mut blocks: usize = 0;
+    while blocks < 1000 {
+        let n = io::read_full(0, &mut bytes);
+        if n == 0 {
+            return;
+        }
+        requests_in(&bytes[..n]);
+        blocks += 1;
+    }
+}
