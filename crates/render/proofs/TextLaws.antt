@@ -13,7 +13,7 @@ use native.Mathlib.Omega.{arith}
 use lib.ListN.{length, set, length-append}
 use borrow.Author.Tests.{lt-ltb, le-ltb}
 use Rattle.spec.proofs.BoolLaws.{le-or-lt}
-use Rattle.render.specs.Text.{digit, digitsFor, decimal}
+use Rattle.render.specs.Text.{digit, digitsFor, decimal, number}
 use Rattle.render.specs.Written.{Added}
 use Rattle.render.proofs.AddedLaws.{added-as, added-one, added-length, added-then}
 
@@ -90,3 +90,11 @@ module _ (n at : ℕ) (o : List ℕ) (large : 10 ≤ n) (room : at + length (dec
       added-as (decimal (n / 10) ++ (x ∷ [])) (decimal n) at (k + 1) o (set o1 k x)
       (ap (λ z. decimal (n / 10) ++ (z ∷ [])) e ∙ sym (decimal-more n large))
       (added-byte (decimal (n / 10)) at k x o o1 (omega arith) y)
+
+-- a number and what ends it
+module _ (n end at : ℕ) (o : List ℕ) (room : at + length (number n end) ≤ length o) where
+  pub digits-room : at + length (decimal n) < length o
+  digits-room = let l = length-append (decimal n) (end ∷ []) in omega arith
+
+  pub end-room : (k : ℕ) (o1 : List ℕ) → length o1 ≡ length o → Added (decimal n) at k o o1 → k < length o1
+  end-room k o1 l y = let d = digits-room in let s = y .ends in omega arith

@@ -1,2 +1,3 @@
 // The text of a listing.
 pub mod number;
+pub mod text;
