@@ -1,13 +1,15 @@
 -- The laws of `specs/Written.antt`.
 --     added-one, added-then, added-as    a store; one text after another; an equal text
+--     added-none, added-bytes            nothing; one more of the bytes of a text
 --     added-length                       the output's length stays
+--     Filled, filled-then, filled-room   the same with a limit on the text's length, and the space that is left
 -- Assumes nothing.
 use mathlib.Core.Path.{_≡_, refl, sym, ap, subst, _∙_}
-use mathlib.Core.List.{List, [], _∷_, _++_, append-assoc}
-use Prim.Native.Nat.{ℕ, suc, _+_, _-_, _≤_, _<_}
+use mathlib.Core.List.{List, [], _∷_, _++_, append-assoc, append-nil}
+use Prim.Native.Nat.{ℕ, suc, _+_, _≤_, _<_}
 use native.Mathlib.Omega.{arith}
-use lib.ListN.{length, take, drop, set, length-append, length-take, length-drop}
-use lib.Seq.{length-take-le, drop-drop, drop-append-add, take-at, set-split}
+use lib.ListN.{length, getD, take, drop, set, length-append, length-drop, take-append-drop}
+use lib.Seq.{length-take-le, drop-drop, drop-append-add, take-at, take-all, take-suc, set-split}
 use Rattle.render.specs.Written.{Added}
 
 pub added-as : (a b : List ℕ) (at end : ℕ) (o o1 : List ℕ) → a ≡ b → Added a at end o o1 → Added b at end o o1
@@ -52,3 +54,49 @@ module _ (a : List ℕ) (at end : ℕ) (o o1 : List ℕ) (room : at + length a �
           ∙ ap (λ t. take at o ++ a ++ b ++ t) (rest (length b) ∙ ap (λ n. drop n o) p)
           ∙ ap (λ t. t ++ drop (at + length (a ++ b)) o) (append-assoc (take at o) a b);
       }
+
+pub added-none : (at : ℕ) (o : List ℕ) → Added [] at at o o
+added-none at o =
+    let e : at ≡ at + 0 = omega arith in
+    record { ends = e; holds = sym (take-append-drop at o) ∙ ap (λ l. l ++ drop at o) (sym (append-nil (take at o))) ∙ ap (λ i. take at o ++ [] ++ drop i o) e }
+
+-- the bytes of a text, one after another
+module _ (text : List ℕ) (at : ℕ) (o : List ℕ) (room : at + length text ≤ length o) where
+  pub bytes-start : Added (take 0 text) at (at + 0) o o
+  bytes-start = let e : at ≡ at + 0 = omega arith in subst (λ n. Added [] at n o o) e (added-none at o)
+
+  pub bytes-next : (i : ℕ) (o1 : List ℕ) → i < length text → Added (take i text) at (at + i) o o1
+      → Added (take (i + 1) text) at (at + (i + 1)) o (set o1 (at + i) (getD text i 0))
+  bytes-next i o1 h x =
+      let t = length-take-le i text (omega arith) in
+      let l = added-length (take i text) at (at + i) o o1 (omega arith) x in
+      let e : suc i ≡ i + 1 = omega arith in
+      let p : at + i + 1 ≡ at + (i + 1) = omega arith in
+      let y = added-then (take i text) at (at + i) o o1 (omega arith) x (getD text i 0 ∷ []) (at + i + 1) (set o1 (at + i) (getD text i 0))
+        (added-one (getD text i 0) (at + i) o1 (omega arith)) in
+      subst (λ n. Added (take (i + 1) text) at n o (set o1 (at + i) (getD text i 0))) p
+      (added-as (take i text ++ (getD text i 0 ∷ [])) (take (i + 1) text) at (at + i + 1) o (set o1 (at + i) (getD text i 0))
+      (sym (take-suc text i 0 h) ∙ ap (λ n. take n text) e) y)
+
+  pub bytes-end : (i : ℕ) (o1 : List ℕ) → length text ≤ i → Added (take i text) at (at + i) o o1 → Added text at (at + i) o o1
+  bytes-end i o1 h x = added-as (take i text) text at (at + i) o o1 (take-all i text h) x
+
+-- a text of at most j bytes
+pub record Filled (j : ℕ) (a : List ℕ) (at end : ℕ) (o o1 : List ℕ) : Type 0 where
+  pub added : Added a at end o o1
+  pub short : length a ≤ j
+
+pub filled-then : {j k : ℕ} {a b : List ℕ} {at end end2 : ℕ} {o o1 o2 : List ℕ} → at + (j + k) ≤ length o
+    → Filled j a at end o o1 → Filled k b end end2 o1 o2 → Filled (j + k) (a ++ b) at end2 o o2
+filled-then {j} {k} {a} {b} {at} {end} {end2} {o} {o1} {o2} room x y =
+    let s = x .short in
+    let t = y .short in
+    record { added = added-then a at end o o1 (omega arith) (x .added) b end2 o2 (y .added); short = rw (length-append a b) (omega arith) }
+
+pub filled-room : (k : ℕ) {j : ℕ} {a : List ℕ} {at end : ℕ} {o o1 : List ℕ} → at + (j + k) ≤ length o → Filled j a at end o o1
+    → end + k ≤ length o1
+filled-room k {j} {a} {at} {end} {o} {o1} room x =
+    let s = x .short in
+    let e = x .added .ends in
+    let l = added-length a at end o o1 (omega arith) (x .added) in
+    omega arith

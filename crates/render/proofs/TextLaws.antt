@@ -15,7 +15,7 @@ use borrow.Author.Tests.{lt-ltb, le-ltb}
 use Rattle.spec.proofs.BoolLaws.{le-or-lt}
 use Rattle.render.specs.Text.{digit, digitsFor, decimal, number}
 use Rattle.render.specs.Written.{Added}
-use Rattle.render.proofs.AddedLaws.{added-as, added-one, added-length, added-then}
+use Rattle.render.proofs.AddedLaws.{added-as, added-one, added-length, added-then, Filled}
 
 -- any `most` above n gives the same digits
 digits-same : (a b n : ℕ) → n < a → n < b → digitsFor a n ≡ digitsFor b n
@@ -98,3 +98,12 @@ module _ (n end at : ℕ) (o : List ℕ) (room : at + length (number n end) ≤ 
 
   pub end-room : (k : ℕ) (o1 : List ℕ) → length o1 ≡ length o → Added (decimal n) at k o o1 → k < length o1
   end-room k o1 l y = let d = digits-room in let s = y .ends in omega arith
+
+-- a number of at most five digits, with what ends it
+pub number-filled : (n e : ℕ) {at end : ℕ} {o o1 : List ℕ} → n < 100000 → Added (number n e) at end o o1 → Filled 6 (number n e) at end o o1
+number-filled n e h x =
+    let d = decimal-short 4 n h in
+    record { added = x; short = rw (length-append (decimal n) (e ∷ [])) (omega arith) }
+
+pub number-room : (n e at : ℕ) (o : List ℕ) → n < 100000 → at + 6 ≤ length o → at + length (number n e) ≤ length o
+number-room n e at o h room = let d = decimal-short 4 n h in rw (length-append (decimal n) (e ∷ [])) (omega arith)

@@ -49,7 +49,7 @@ fn add_lines(words: &[u32], n: usize, at: usize, out: &mut [u8]) -> usize
 
 // The header and n lines.
 pub fn put_lines(words: &[u32], n: usize, out: &mut [u8]) -> usize
-    requires { ⌜ (n ≤ 1024) × (8 * n ≤ length (now words)) × (30752 ≤ length (now out)) ⌝ }
+    requires { ⌜ (n ≤ 1024) × (8 * n ≤ length (now words)) × (30732 ≤ length (now out)) ⌝ }
     ensures { λ r. ⌜ Added (answerText (now (words .entry)) (passed n)) 0 r (now (out .entry)) (now (out .exit)) ⌝ }
 {
     let count_at = add_bytes(b"lines ", 0, out);
