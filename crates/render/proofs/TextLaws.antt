@@ -4,18 +4,19 @@
 --     one-digit, tenth, last-room, last-digit    digits written one after another
 --     added-byte                     a byte written after others
 -- Assumes nothing.
-use mathlib.Core.Path.{_≡_, refl, sym, ap, _∙_}
+use mathlib.Core.Path.{_≡_, refl, sym, ap, subst, _∙_}
 use mathlib.Core.Logic.{inl, inr}
 use mathlib.Core.List.{List, [], _∷_, _++_}
 use Prim.Native.Nat.{ℕ, zero, suc, _+_, _*_, _/_, _%_, _^_, _≤_, _<_}
 use native.Mathlib.Nat.{pow-suc}
 use native.Mathlib.Omega.{arith}
-use lib.ListN.{length, set, length-append}
+use lib.ListN.{length, getD, set, length-append}
 use borrow.Author.Tests.{lt-ltb, le-ltb}
+use Rattle.spec.specs.Script.{fieldsOf}
 use Rattle.spec.proofs.BoolLaws.{le-or-lt}
-use Rattle.render.specs.Text.{digit, digitsFor, decimal, number}
+use Rattle.render.specs.Text.{digit, digitsFor, decimal, number, lineText, linesText}
 use Rattle.render.specs.Written.{Added}
-use Rattle.render.proofs.AddedLaws.{added-as, added-one, added-length, added-then, Filled}
+use Rattle.render.proofs.AddedLaws.{added-as, added-none, added-one, added-length, added-then, Filled, filled-then}
 
 -- any `most` above n gives the same digits
 digits-same : (a b n : ℕ) → n < a → n < b → digitsFor a n ≡ digitsFor b n
@@ -100,10 +101,51 @@ module _ (n end at : ℕ) (o : List ℕ) (room : at + length (number n end) ≤ 
   end-room k o1 l y = let d = digits-room in let s = y .ends in omega arith
 
 -- a number of at most five digits, with what ends it
+number-short : (n e : ℕ) → n < 100000 → length (number n e) ≤ 6
+number-short n e h = let d = decimal-short 4 n h in rw (length-append (decimal n) (e ∷ [])) (omega arith)
+
 pub number-filled : (n e : ℕ) {at end : ℕ} {o o1 : List ℕ} → n < 100000 → Added (number n e) at end o o1 → Filled 6 (number n e) at end o o1
-number-filled n e h x =
-    let d = decimal-short 4 n h in
-    record { added = x; short = rw (length-append (decimal n) (e ∷ [])) (omega arith) }
+number-filled n e h x = record { added = x; short = number-short n e h }
 
 pub number-room : (n e at : ℕ) (o : List ℕ) → n < 100000 → at + 6 ≤ length o → at + length (number n e) ≤ length o
-number-room n e at o h room = let d = decimal-short 4 n h in rw (length-append (decimal n) (e ∷ [])) (omega arith)
+number-room n e at o h room = let s = number-short n e h in omega arith
+
+-- a line has at most 30 bytes
+pub line-short : (l w : ℕ) → l < 1024 → length (lineText l w) ≤ 30
+unfolding lineText fieldsOf
+line-short l w h =
+    let a = number l 32 in
+    let b = number (w / 268435456 % 16) 32 in
+    let c = number (w / 16777216 % 16) 32 in
+    let d = number (w / 1024 % 16384) 32 in
+    let e = number (w % 1024) 10 in
+    let na = number-short l 32 (omega arith) in
+    let nb = number-short (w / 268435456 % 16) 32 (omega arith) in
+    let nc = number-short (w / 16777216 % 16) 32 (omega arith) in
+    let nd = number-short (w / 1024 % 16384) 32 (omega arith) in
+    let ne = number-short (w % 1024) 10 (omega arith) in
+    omega (
+      arith,
+      length-append (a ++ b ++ c ++ d) e,
+      length-append (a ++ b ++ c) d,
+      length-append (a ++ b) c,
+      length-append a b,
+    )
+
+-- the lines of a script, one after another
+module _ (words : List ℕ) (at : ℕ) (o : List ℕ) where
+  pub lines-start : Filled (30 * 0) (linesText words 0) at at o o
+  unfolding linesText
+  lines-start = record { added = added-none at o; short = omega arith }
+
+  pub lines-next : (l end end2 : ℕ) (o1 o2 : List ℕ) → l < 1024 → at + 30 * (l + 1) ≤ length o
+      → Filled (30 * l) (linesText words l) at end o o1 → Added (lineText l (getD words (8 * l) 0)) end end2 o1 o2
+      → Filled (30 * (l + 1)) (linesText words (l + 1)) at end2 o o2
+  unfolding linesText
+  lines-next l end end2 o1 o2 h room x y =
+      let e : suc l ≡ l + 1 = omega arith in
+      let j : 30 * l + 30 ≡ 30 * (l + 1) = omega arith in
+      let f : Filled (30 * l + 30) (linesText words (suc l)) at end2 o o2 =
+        filled-then (omega arith) x (record { added = y; short = line-short l (getD words (8 * l) 0) h }) in
+      subst (λ n. Filled n (linesText words (l + 1)) at end2 o o2) j
+      (subst (λ n. Filled (30 * l + 30) (linesText words n) at end2 o o2) e f)
