@@ -1,8 +1,9 @@
 -- The laws of `specs/Written.antt`.
 --     added-one, added-then, added-as    a store; one text after another; an equal text
---     added-none, added-bytes            nothing; one more of the bytes of a text
+--     added-byte, added-none             a store after a text; nothing
+--     bytes-start, bytes-next, bytes-end the bytes of a text, one after another
 --     added-length                       the output's length stays
---     Filled, filled-then, filled-room   the same with a limit on the text's length, and the space that is left
+--     Filled, filled-as, filled-then, filled-room   the same with a limit on the text's length, and the space that is left
 -- Assumes nothing.
 use mathlib.Core.Path.{_≡_, refl, sym, ap, subst, _∙_}
 use mathlib.Core.List.{List, [], _∷_, _++_, append-assoc, append-nil}
@@ -55,6 +56,14 @@ module _ (a : List ℕ) (at end : ℕ) (o o1 : List ℕ) (room : at + length a �
           ∙ ap (λ t. t ++ drop (at + length (a ++ b)) o) (append-assoc (take at o) a b);
       }
 
+-- a byte after others
+pub added-byte : (a : List ℕ) (at k x : ℕ) (o o1 : List ℕ) → at + length a < length o → Added a at k o o1
+    → Added (a ++ (x ∷ [])) at (k + 1) o (set o1 k x)
+added-byte a at k x o o1 room y =
+    let l = added-length a at k o o1 (omega arith) y in
+    let s = y .ends in
+    added-then a at k o o1 (omega arith) y (x ∷ []) (k + 1) (set o1 k x) (added-one x k o1 (omega arith))
+
 pub added-none : (at : ℕ) (o : List ℕ) → Added [] at at o o
 added-none at o =
     let e : at ≡ at + 0 = omega arith in
@@ -86,6 +95,9 @@ pub record Filled (j : ℕ) (a : List ℕ) (at end : ℕ) (o o1 : List ℕ) : Ty
   pub added : Added a at end o o1
   pub short : length a ≤ j
 
+pub filled-as : (j : ℕ) {a : List ℕ} {at end : ℕ} {o o1 : List ℕ} → length a ≤ j → Added a at end o o1 → Filled j a at end o o1
+filled-as j h x = record { added = x; short = h }
+
 pub filled-then : {j k : ℕ} {a b : List ℕ} {at end end2 : ℕ} {o o1 o2 : List ℕ} → at + (j + k) ≤ length o
     → Filled j a at end o o1 → Filled k b end end2 o1 o2 → Filled (j + k) (a ++ b) at end2 o o2
 filled-then {j} {k} {a} {b} {at} {end} {end2} {o} {o1} {o2} room x y =
@@ -100,3 +112,10 @@ filled-room k {j} {a} {at} {end} {o} {o1} room x =
     let e = x .added .ends in
     let l = added-length a at end o o1 (omega arith) (x .added) in
     omega arith
+
+-- the last text of several
+pub filled-added : {j : ℕ} {a b : List ℕ} {at end end2 : ℕ} {o o1 o2 : List ℕ} → at + j ≤ length o → Filled j a at end o o1
+    → Added b end end2 o1 o2 → Added (a ++ b) at end2 o o2
+filled-added {j} {a} {b} {at} {end} {end2} {o} {o1} {o2} room x y =
+    let s = x .short in
+    added-then a at end o o1 (omega arith) (x .added) b end2 o2 y

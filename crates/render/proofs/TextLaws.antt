@@ -2,7 +2,6 @@
 --     decimal-small, decimal-more    a number's last digit stands after those of its tenth
 --     decimal-some, decimal-short    how many digits there are
 --     one-digit, tenth, last-room, last-digit    digits written one after another
---     added-byte                     a byte written after others
 -- Assumes nothing.
 use mathlib.Core.Path.{_≡_, refl, sym, ap, subst, _∙_}
 use mathlib.Core.Logic.{inl, inr}
@@ -16,7 +15,7 @@ use Rattle.spec.specs.Script.{fieldsOf}
 use Rattle.spec.proofs.BoolLaws.{le-or-lt}
 use Rattle.render.specs.Text.{digit, digitsFor, decimal, number, lineText, linesText}
 use Rattle.render.specs.Written.{Added}
-use Rattle.render.proofs.AddedLaws.{added-as, added-none, added-one, added-length, added-then, Filled, filled-then}
+use Rattle.render.proofs.AddedLaws.{added-as, added-none, added-one, added-byte, Filled, filled-then}
 
 -- any `most` above n gives the same digits
 digits-same : (a b n : ℕ) → n < a → n < b → digitsFor a n ≡ digitsFor b n
@@ -67,14 +66,6 @@ one-digit n at x o h room e =
     let d = decimal-some n in
     added-as (x ∷ []) (decimal n) at (at + 1) o (set o at x) (ap (λ y. y ∷ []) e ∙ sym (decimal-small n h)) (added-one x at o (omega arith))
 
--- a byte after others
-pub added-byte : (a : List ℕ) (at k x : ℕ) (o o1 : List ℕ) → at + length a < length o → Added a at k o o1
-    → Added (a ++ (x ∷ [])) at (k + 1) o (set o1 k x)
-added-byte a at k x o o1 room y =
-    let l = added-length a at k o o1 (omega arith) y in
-    let s = y .ends in
-    added-then a at k o o1 (omega arith) y (x ∷ []) (k + 1) (set o1 k x) (added-one x k o1 (omega arith))
-
 module _ (n at : ℕ) (o : List ℕ) (large : 10 ≤ n) (room : at + length (decimal n) ≤ length o) where
   -- its tenth is smaller, and has a place
   pub tenth : (t : ℕ) → n ≡ t → (n / 10 < t) × (at + length (decimal (n / 10)) ≤ length o)
@@ -100,15 +91,16 @@ module _ (n end at : ℕ) (o : List ℕ) (room : at + length (number n end) ≤ 
   pub end-room : (k : ℕ) (o1 : List ℕ) → length o1 ≡ length o → Added (decimal n) at k o o1 → k < length o1
   end-room k o1 l y = let d = digits-room in let s = y .ends in omega arith
 
--- a number of at most five digits, with what ends it
-number-short : (n e : ℕ) → n < 100000 → length (number n e) ≤ 6
-number-short n e h = let d = decimal-short 4 n h in rw (length-append (decimal n) (e ∷ [])) (omega arith)
+-- a number of at most d + 1 digits, with what ends it
+number-short : (d n e : ℕ) → n < 10 ^ suc d → length (number n e) ≤ d + 2
+number-short d n e h = let s = decimal-short d n h in rw (length-append (decimal n) (e ∷ [])) (omega arith)
 
-pub number-filled : (n e : ℕ) {at end : ℕ} {o o1 : List ℕ} → n < 100000 → Added (number n e) at end o o1 → Filled 6 (number n e) at end o o1
-number-filled n e h x = record { added = x; short = number-short n e h }
+pub number-filled : (d n e : ℕ) {at end : ℕ} {o o1 : List ℕ} → n < 10 ^ suc d → Added (number n e) at end o o1
+    → Filled (d + 2) (number n e) at end o o1
+number-filled d n e h x = record { added = x; short = number-short d n e h }
 
-pub number-room : (n e at : ℕ) (o : List ℕ) → n < 100000 → at + 6 ≤ length o → at + length (number n e) ≤ length o
-number-room n e at o h room = let s = number-short n e h in omega arith
+pub number-room : (d n e at : ℕ) (o : List ℕ) → n < 10 ^ suc d → at + (d + 2) ≤ length o → at + length (number n e) ≤ length o
+number-room d n e at o h room = let s = number-short d n e h in omega arith
 
 -- a line has at most 30 bytes
 pub line-short : (l w : ℕ) → l < 1024 → length (lineText l w) ≤ 30
@@ -119,11 +111,11 @@ line-short l w h =
     let c = number (w / 16777216 % 16) 32 in
     let d = number (w / 1024 % 16384) 32 in
     let e = number (w % 1024) 10 in
-    let na = number-short l 32 (omega arith) in
-    let nb = number-short (w / 268435456 % 16) 32 (omega arith) in
-    let nc = number-short (w / 16777216 % 16) 32 (omega arith) in
-    let nd = number-short (w / 1024 % 16384) 32 (omega arith) in
-    let ne = number-short (w % 1024) 10 (omega arith) in
+    let na = number-short 4 l 32 (omega arith) in
+    let nb = number-short 4 (w / 268435456 % 16) 32 (omega arith) in
+    let nc = number-short 4 (w / 16777216 % 16) 32 (omega arith) in
+    let nd = number-short 4 (w / 1024 % 16384) 32 (omega arith) in
+    let ne = number-short 4 (w % 1024) 10 (omega arith) in
     omega (
       arith,
       length-append (a ++ b ++ c ++ d) e,

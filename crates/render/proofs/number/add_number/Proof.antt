@@ -1,6 +1,7 @@
 use native.Mathlib.Omega.{arith}
 use Rattle.render.specs.Text.{decimal}
-use Rattle.render.proofs.TextLaws.{added-byte, digits-room, end-room}
+use Rattle.render.proofs.AddedLaws.{added-byte}
+use Rattle.render.proofs.TextLaws.{digits-room, end-room}
 use borrow.Author.Needs.{needs}
 use Rattle.render.proofs.number.add_number.Statement.{statement}
 use Rattle.render.proofs.number.add_number.Tie as tie
