@@ -2,17 +2,18 @@
 use script::line::has_target;
 use script::line::is_present;
 ghost use mathlib.Core.Path.{_≡_};
+ghost use mathlib.Core.Bool.{cond};
 ghost use Prim.Native.Nat.{_*_, _≤_, _<_};
 ghost use lib.ListN.{length, getD};
 ghost use Rattle.spec.specs.Questions.{passed};
 ghost use Rattle.spec.specs.Rule.{form32, Table, nodeFields, nodeOf, checkRule};
-ghost use Rattle.spec.specs.Script.{instructionRead, wordFor, bareCode, mostLines};
+ghost use Rattle.spec.specs.Script.{instructionRead, isPresent, wordFor, bareCode, mostLines};
 ghost use Rattle.spec.specs.Weaver.{sizeFrom, blockSize, startOf, wovenCount, retarget, checkWeaving};
 ghost use Rattle.layout.specs.Layout.{tableIn, Sized, nodeLines, Started};
 
 // How many lines deciding the node with this word takes, from the sizes for lower nodes.
-fn node_size(sizes: &[u16; 64], word: u32) -> u16
-    requires { ⌜ sizeFrom (λ j. getD (now sizes) j 0) (nodeOf (nodeFields word)) 0 < 65536 ⌝ }
+fn node_size(sizes: &[u16], word: u32) -> u16
+    requires { ⌜ (32 ≤ length (now sizes)) × (sizeFrom (λ j. getD (now sizes) j 0) (nodeOf (nodeFields word)) 0 < 65536) ⌝ }
     ensures { λ r. ⌜ r ≡ sizeFrom (λ j. getD (now (sizes .entry)) j 0) (nodeOf (nodeFields word)) 0 ⌝ }
 {
     let kind = word / 536870912 % 8;
@@ -26,9 +27,8 @@ fn node_size(sizes: &[u16; 64], word: u32) -> u16
     }
 }
 
-// How many lines deciding each node of an accepted rule takes.
-pub fn measure_nodes(rule: &[u32], sizes: &mut [u16; 64])
-    requires { ⌜ checkRule form32 (now rule) ≡ passed tt ⌝ }
+fn fill_sizes(rule: &[u32], sizes: &mut [u16])
+    requires { ⌜ (checkRule form32 (now rule) ≡ passed tt) × (32 ≤ length (now sizes)) ⌝ }
     ensures { λ r. ⌜ Sized (now (rule .entry)) (now (sizes .exit)) ⌝ }
 {
     let mut k = 0;
@@ -36,6 +36,14 @@ pub fn measure_nodes(rule: &[u32], sizes: &mut [u16; 64])
         sizes[k] = node_size(sizes, rule[k]);
         k += 1;
     }
+}
+
+// How many lines deciding each node of an accepted rule takes.
+pub fn measure_nodes(rule: &[u32], sizes: &mut [u16; 64])
+    requires { ⌜ checkRule form32 (now rule) ≡ passed tt ⌝ }
+    ensures { λ r. ⌜ Sized (now (rule .entry)) (now (sizes .exit)) ⌝ }
+{
+    fill_sizes(rule, sizes);
 }
 
 // How many lines of a block the node with this word accounts for.
@@ -67,15 +75,22 @@ pub fn block_size(rule: &[u32]) -> usize
     lines
 }
 
+// How many lines a bare line with this word becomes; a block has `size` lines.
+fn line_size(word: u32, size: usize) -> usize
+    ensures { λ r. ⌜ r ≡ cond (isPresent (instructionRead word)) size 1 ⌝ }
+{
+    if is_present(word) { size } else { 1 }
+}
+
 // Where bare line `to` starts, from where line `from` does; a block has `size` lines.
 fn start_after(bare: &[u32], size: usize, from: usize, start: usize, to: usize) -> usize
-    requires { ⌜ (from ≤ to) × (to ≤ length (now bare)) × (length (now bare) ≤ mostLines) × (size ≤ mostLines) × (start ≤ mostLines * from) ⌝ }
+    requires { ⌜ (from ≤ to) × (to ≤ length (now bare)) × (length (now bare) ≤ mostLines) × (size ≤ mostLines) × (start ≤ mostLines) ⌝ }
     ensures { λ r. ⌜ ((t : Table) → size ≡ blockSize t → start ≡ startOf t (bareCode (now (bare .entry))) from → r ≡ startOf t (bareCode (now (bare .entry))) to) ⌝ }
 {
     let mut n = start;
     let mut l = from;
     while l < to {
-        n += if is_present(bare[l]) { size } else { 1 };
+        n += line_size(bare[l], size);
         l += 1;
     }
     n
@@ -89,9 +104,8 @@ pub fn count_lines(bare: &[u32], size: usize) -> usize
     start_after(bare, size, 0, 0, bare.len())
 }
 
-// Where every 16th bare line starts. The rule is not looked at: it says what a block is.
-pub fn mark_starts(rule: &[u32], bare: &[u32], size: usize, starts: &mut [u16; 64])
-    requires { ⌜ (checkWeaving form32 (now rule) (now bare) ≡ passed tt) × (size ≡ blockSize (tableIn (now rule))) ⌝ }
+fn fill_starts(rule: &[u32], bare: &[u32], size: usize, starts: &mut [u16])
+    requires { ⌜ (checkWeaving form32 (now rule) (now bare) ≡ passed tt) × (size ≡ blockSize (tableIn (now rule))) × (64 ≤ length (now starts)) ⌝ }
     ensures { λ r. ⌜ Started (now (rule .entry)) (now (bare .entry)) (now (starts .exit)) size ⌝ }
 {
     let mut n = 0;
@@ -100,9 +114,17 @@ pub fn mark_starts(rule: &[u32], bare: &[u32], size: usize, starts: &mut [u16; 6
         if l % 16 == 0 {
             starts[l / 16] = n as u16;
         }
-        n += if is_present(bare[l]) { size } else { 1 };
+        n += line_size(bare[l], size);
         l += 1;
     }
+}
+
+// Where every 16th bare line starts. The rule is not looked at: it says what a block is.
+pub fn mark_starts(rule: &[u32], bare: &[u32], size: usize, starts: &mut [u16; 64])
+    requires { ⌜ (checkWeaving form32 (now rule) (now bare) ≡ passed tt) × (size ≡ blockSize (tableIn (now rule))) ⌝ }
+    ensures { λ r. ⌜ Started (now (rule .entry)) (now (bare .entry)) (now (starts .exit)) size ⌝ }
+{
+    fill_starts(rule, bare, size, starts);
 }
 
 // Where bare line l starts.

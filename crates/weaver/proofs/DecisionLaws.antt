@@ -6,7 +6,7 @@
 --     implies-code                         and their code, one after the other, is the node's
 --     simple-room, simple-code             any other node
 -- Assumes nothing.
-use mathlib.Core.Path.{_≡_, refl, sym, ap, ap₂, subst, _∙_}
+use mathlib.Core.Path.{_≡_, refl, sym, ap, subst, _∙_}
 use mathlib.Core.Bool.{true}
 use mathlib.Core.List.{List, _++_}
 use Prim.Native.Nat.{ℕ, zero, suc, _+_, _-_, _*_, _≤_, _<_}
@@ -15,14 +15,14 @@ use lib.Dec.{ltb}
 use lib.ListN.{length, getD}
 use Rattle.spec.specs.Questions.{all}
 use Rattle.spec.specs.Rule.{form32, field, NodeFields, nodeFields, byKind, Node, falseNode, testNode, impliesNode, sinceNode, weakPreviousNode, nodeOf, Table, nodeAt, operands}
-use Rattle.spec.specs.Script.{mostLines}
 use Rattle.spec.specs.Facts.{valueIs, Facts, _∪_, one}
 use Rattle.spec.specs.Check.{lineLength}
 use Rattle.spec.specs.Weaver.{sizeFrom, decideSize, decideFrom, decide}
-use Rattle.spec.proofs.RuleLaws.{InOrder, by-lower, both-lower, length-table, rule-out}
+use Rattle.spec.proofs.RuleLaws.{InOrder, by-lower, both-lower, rule-out}
 use Rattle.spec.proofs.WeaverLaws.{decideSize-is, decide-at}
 use Rattle.rule.proofs.NodeLaws.{node-at, kind-3}
-use Rattle.weaver.specs.Laid.{tableIn, Sized, Deciding}
+use Rattle.layout.specs.Layout.{tableIn}
+use Rattle.weaver.specs.Laid.{Deciding}
 
 -- the measure falls
 pub falls-to : (j k t : ℕ) → k ≡ t → j < k → j < t

@@ -10,22 +10,22 @@
 use mathlib.Core.Path.{_≡_, refl, sym, ap, ap₂, subst, _∙_}
 use mathlib.Core.Bool.{true, false}
 use mathlib.Core.List.{List, [], _∷_, _++_, append-assoc}
-use Prim.Native.Nat.{ℕ, zero, suc, _+_, _-_, _*_, _≤_, _<_}
+use Prim.Native.Nat.{ℕ, zero, suc, _+_, _-_, _*_, _<_}
 use native.Mathlib.Omega.{arith}
 use lib.ListN.{length, getD, drop, length-drop, length-append}
 use lib.Dec.{ltb}
 use Rattle.spec.specs.Questions.{all}
-use Rattle.spec.specs.Rule.{form32, field, NodeFields, nodeFields, byKind, Node, falseNode, sinceNode, weakPreviousNode, nodeOf, Table, nodeAt, operands}
+use Rattle.spec.specs.Rule.{form32, field, NodeFields, nodeFields, byKind, falseNode, sinceNode, weakPreviousNode, nodeOf, Table, nodeAt, operands}
 use Rattle.spec.specs.Script.{Instruction, wordFor}
 use Rattle.spec.specs.Facts.{valueIs, priorIs, Facts, _∪_, one}
-use Rattle.spec.specs.Check.{Lines, wordsOf}
 use Rattle.spec.specs.Weaver.{line, decideSize, decide, setting, update, updateSize}
 use Rattle.spec.proofs.RuleLaws.{InOrder, both-lower, one-lower, rule-out}
 use Rattle.spec.proofs.WeaverLaws.{length-decide, length-setting}
 use Rattle.rule.proofs.NodeLaws.{node-at, kind-4, kind-5}
+use Rattle.layout.specs.Layout.{tableIn}
 use Rattle.weaver.specs.Written.{storedLine, over, written}
 use Rattle.weaver.specs.Parts.{leftLines, sinceEnd}
-use Rattle.weaver.specs.Laid.{tableIn, Sized, Deciding, Updating, Ending, leftIn, rightIn}
+use Rattle.weaver.specs.Laid.{Deciding, Updating, Ending, leftIn, rightIn}
 use Rattle.weaver.proofs.OverLaws.{words-append, stored-line}
 use Rattle.weaver.proofs.DecisionLaws.{size-some}
 

@@ -1,21 +1,16 @@
--- What is settled before lines are written: the rule, the sizes of its decisions, and where bare lines start.
+-- What is settled before lines are written: that they are lines of a script, and that the output has space for them.
 use mathlib.Core.Path.{_≡_}
 use mathlib.Core.List.{List}
 use Prim.Native.Nat.{ℕ, _+_, _*_, _<_, _≤_}
 use lib.ListN.{length, getD}
-use Rattle.spec.specs.Questions.{count, passed}
-use Rattle.spec.specs.Rule.{form32, field, Table, tableOf, nodeAt, lastNode, isPast, checkRule}
-use Rattle.spec.specs.Script.{Code, bareCode, mostLines}
+use Rattle.spec.specs.Questions.{count}
+use Rattle.spec.specs.Rule.{field, nodeAt, lastNode, isPast}
+use Rattle.spec.specs.Script.{mostLines}
 use Rattle.spec.specs.Check.{lineLength}
-use Rattle.spec.specs.Weaver.{decideSize, updateSize, updatesSize, blockSize, startOf, checkWeaving}
-
-abbrev pub tableIn : (rule : List ℕ) → Table
-tableIn rule = tableOf form32 rule
-
--- the rule is accepted, and `sizes` has how many lines deciding each node takes
-abbrev pub Sized : (rule sizes : List ℕ) → Type 0
-Sized rule sizes =
-    (checkRule form32 rule ≡ passed tt) × ((k : ℕ) → k < length rule → getD sizes k 0 ≡ decideSize (tableIn rule) k)
+use Rattle.spec.specs.Weaver.{decideSize, updateSize, updatesSize, blockSize}
+use Rattle.layout.specs.Layout.{tableIn, Sized, Started}
+use Rattle.sets.specs.Sets.{setOf}
+use Rattle.weaver.specs.Parts.{pastNodes}
 
 -- node k can be decided at `place` towards two lines, and the output has space for its code
 pub record Deciding (rule sizes : List ℕ) (k place onTrue onFalse : ℕ) (out : List ℕ) : Type 0 where
@@ -67,12 +62,8 @@ pub record Blocking (rule sizes : List ℕ) (place : ℕ) (out : List ℕ) : Typ
   pub inScript : place + blockSize (tableIn rule) < mostLines
   pub inOutput : lineLength * blockSize (tableIn rule) ≤ length out
 
--- how far two starts in the table of starts are apart
-abbrev pub interval : ℕ
-interval = 16
-
--- the rule and the bare script are such that the weaver takes them, and `starts` has where every 16th bare line starts
-abbrev pub Started : (rule bare starts : List ℕ) → Type 0
-Started rule bare starts =
-    (checkWeaving form32 rule bare ≡ passed tt)
-    × ((j : ℕ) → interval * j < length bare → getD starts j 0 ≡ startOf (tableIn rule) (bareCode bare) (interval * j))
+-- the weaver takes the script, and its tables are made
+pub record Weaving (rule bare sizes starts : List ℕ) (size past : ℕ) : Type 0 where
+  pub sized : Sized rule sizes
+  pub started : Started rule bare starts size
+  pub pastIs : setOf past ≡ pastNodes (tableIn rule)

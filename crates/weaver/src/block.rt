@@ -6,20 +6,23 @@ use crate::update::put_update;
 use checker::facts::Facts;
 use checker::facts::learn_value;
 use rule::node::past_at;
-use sets::with;
 use sets::with_if;
 ghost use mathlib.Core.Path.{_≡_};
+ghost use mathlib.Core.Bool.{cond};
+ghost use mathlib.Core.List.{[], _∷_};
 ghost use Prim.Native.Nat.{_+_, _*_, _<_, _≤_};
 ghost use lib.ListN.{length};
 ghost use Rattle.spec.specs.Questions.{count};
-ghost use Rattle.spec.specs.Rule.{isPast};
+ghost use Rattle.spec.specs.Rule.{nodeAt, isPast};
+ghost use Rattle.spec.specs.Script.{keep};
 ghost use Rattle.spec.specs.Facts.{keptIsPrior, workIsNext, workIsPrior, _∪_, only};
-ghost use Rattle.spec.specs.Weaver.{updatesSize, updates, keeps, blockSize, block};
+ghost use Rattle.spec.specs.Weaver.{line, updatesSize, updates, keeps, blockSize, block};
 ghost use Rattle.sets.specs.Sets.{setOf, capacity};
 ghost use Rattle.checker.specs.FactSets.{factsOf};
 ghost use Rattle.weaver.specs.Written.{written};
 ghost use Rattle.weaver.specs.Parts.{pastNodes, presentLines, guardLines};
-ghost use Rattle.weaver.specs.Laid.{tableIn, Updatable, Guarding, Blocking};
+ghost use Rattle.layout.specs.Layout.{tableIn};
+ghost use Rattle.weaver.specs.Laid.{Updatable, Guarding, Blocking};
 
 // The facts M of the nodes in m, W of those in w and C of those in c.
 pub fn noted(m: u64, w: u64, c: u64) -> Facts
@@ -54,6 +57,20 @@ fn put_updates(rule: &[u32], sizes: &[u16; 64], past: u64, place: usize, out: &m
     n
 }
 
+// A 12 with the facts x if node k is a past node. Hands back how many lines that is.
+fn put_keep(rule: &[u32], k: usize, x: Facts, out: &mut [u32]) -> usize
+    requires { ⌜ (k < capacity) × (8 * cond (isPast (nodeAt (tableIn (now rule)) k)) 1 0 ≤ length (now out)) ⌝ }
+    ensures { λ r. ⌜ (r ≡ cond (isPast (nodeAt (tableIn (now (rule .entry))) k)) 1 0)
+        × (now (out .exit) ≡ written (cond (isPast (nodeAt (tableIn (now (rule .entry))) k)) (line (keep k) (factsOf x) ∷ []) []) (now (out .entry))) ⌝ }
+{
+    if past_at(rule, k) {
+        put_line(code(12, 0, k as u32, 0), x, out);
+        1
+    } else {
+        0
+    }
+}
+
 // One 12 for each past node, rising.
 fn put_keeps(rule: &[u32], past: u64, out: &mut [u32])
     requires { ⌜ (length (now rule) ≤ capacity) × (setOf past ≡ pastNodes (tableIn (now rule))) × (8 * count isPast (tableIn (now rule)) ≤ length (now out)) ⌝ }
@@ -63,15 +80,9 @@ fn put_keeps(rule: &[u32], past: u64, out: &mut [u32])
     let mut done = 0;
     let mut k = 0;
     while k < rule.len() {
-        if past_at(rule, k) {
-            put_line(
-                code(12, 0, k as u32, 0),
-                noted(done, 0, past),
-                &mut out[8 * n..],
-            );
-            done = with(done, k);
-            n += 1;
-        }
+        let x = noted(done, 0, past);
+        n += put_keep(rule, k, x, &mut out[8 * n..]);
+        done = with_if(done, k, past_at(rule, k));
         k += 1;
     }
 }

@@ -17,7 +17,8 @@ ghost use Rattle.spec.specs.Weaver.{sizeFrom, Decision, decideFrom, decide};
 ghost use Rattle.sets.specs.Sets.{capacity};
 ghost use Rattle.checker.specs.FactSets.{factsOf};
 ghost use Rattle.weaver.specs.Written.{storedLine, over, written};
-ghost use Rattle.weaver.specs.Laid.{tableIn, Deciding};
+ghost use Rattle.layout.specs.Layout.{tableIn};
+ghost use Rattle.weaver.specs.Laid.{Deciding};
 
 // A leaf, node k: its branch to the true place, then go to the false place, which has F of the leaf.
 fn put_leaf(branch: u32, k: usize, on_false: usize, x: Facts, out: &mut [u32])

@@ -15,7 +15,8 @@ ghost use Rattle.spec.specs.Weaver.{setting, update, updateSize};
 ghost use Rattle.sets.specs.Sets.{capacity};
 ghost use Rattle.checker.specs.FactSets.{factsOf};
 ghost use Rattle.weaver.specs.Written.{written};
-ghost use Rattle.weaver.specs.Laid.{tableIn, leftIn, rightIn, Deciding, Updating, Ending};
+ghost use Rattle.layout.specs.Layout.{tableIn};
+ghost use Rattle.weaver.specs.Laid.{leftIn, rightIn, Deciding, Updating, Ending};
 ghost use Rattle.weaver.specs.Parts.{leftLines, sinceEnd};
 
 // Set 1, go past, set 0: the value of node v becomes the work bit of node k.

@@ -1,93 +1,72 @@
-use Rattle.weaver.specs.Written.{written}
-use Rattle.weaver.proofs.UpdateLaws.{two-lines, deciding-in, deciding-some}
-use Rattle.weaver.proofs.GrowthLaws.{add-first, add-second}
-use Rattle.weaver.proofs.OverLaws.{written-then, part-of}
-use Rattle.weaver.specs.Parts.{leftLines}
-use Rattle.weaver.specs.Laid.{tableIn}
+-- `weaver::update::put_left` meets its contract: two lines, and the code deciding left into the rest. Assumes nothing.
+use mathlib.Core.List.{[], _∷_}
+use mathlib.Core.Bool.{true, false}
+use mathlib.Core.Path.{refl, sym, ap, _∙_}
+use Prim.Native.Nat.{_+_}
+use native.Mathlib.Omega.{arith}
+use lib.ListN.{length-drop}
 use Rattle.spec.proofs.WeaverLaws.{length-decide}
 use Rattle.spec.proofs.RuleLaws.{rule-out}
 use Rattle.spec.specs.Weaver.{line, decide, decideSize}
 use Rattle.spec.specs.Rule.{form32}
 use Rattle.spec.specs.Facts.{priorIs, _∪_, one}
 use Rattle.spec.specs.Script.{wordFor, fieldsFor, branch, ifKept, goto}
-use lib.ListN.{length, getD, drop, length-drop}
-use Prim.Native.Nat.{_+_, _*_, _≤_}
-use mathlib.Core.List.{[], _∷_, _++_}
-use mathlib.Core.Bool.{true, false}
+use Rattle.layout.specs.Layout.{tableIn}
 use Rattle.checker.specs.FactSets.{factsOf}
-use native.Mathlib.Omega.{arith}
-use mathlib.Core.Path.{_≡_, refl, sym, ap, ap₂, subst, _∙_}
+use Rattle.weaver.specs.Written.{written}
+use Rattle.weaver.proofs.UpdateLaws.{two-lines, deciding-in, deciding-some}
+use Rattle.weaver.proofs.GrowthLaws.{add-first, add-second}
+use Rattle.weaver.proofs.OverLaws.{written-then, part-of}
+use Rattle.weaver.specs.Parts.{leftLines}
 use borrow.Author.Needs.{needs}
 use Rattle.weaver.proofs.update.put_left.Statement.{statement}
 use Rattle.weaver.proofs.update.put_left.Tie as tie
-use Rattle.weaver.proofs.update.put_left.Reads as reads
-use Rattle.weaver.proofs.update.put_left.Lts as lts
-use Rattle.checker.proofs.facts.learn_prior.Reads as learn-prior-reads
-use Rattle.weaver.proofs.decision.put_decision.Reads as put-decision-reads
-use Rattle.weaver.proofs.line.code.Reads as code-reads
-use Rattle.weaver.proofs.line.put_two.Reads as put-two-reads
 
--- src/update.rt:46:9
 learn-prior-requires : tie.Need-learn-prior-requires
 learn-prior-requires c κs = search needs
 
--- src/update.rt:47:25
 cast-code : tie.Need-cast-code
 cast-code c = search needs
 
--- src/update.rt:47:35
 add-code : tie.Need-add-code
 add-code c = search needs
 
--- src/update.rt:47:13
 code-requires : tie.Need-code-requires
 code-requires c κs = let s = deciding-some _ _ _ _ _ _ _ (c .before .before .before .pre .2) in let i = c .before .before .before .pre .2 .inScript in let k = c .before .before .before .pre .0 in (omega arith, omega arith, omega arith, omega arith)
 
--- src/update.rt:47:64
 add-code-2 : tie.Need-add-code-2
 add-code-2 c = search needs
 
--- src/update.rt:47:50
 code-requires-2 : tie.Need-code-requires-2
 code-requires-2 c κs = search needs
 
--- src/update.rt:47:5
 put-two-requires : tie.Need-put-two-requires
 put-two-requires c κs = search needs
 
--- src/update.rt:48:9
 learn-prior-requires-2 : tie.Need-learn-prior-requires-2
 learn-prior-requires-2 c κs = search needs
 
--- src/update.rt:49:37
 add-put-decision : tie.Need-add-put-decision
 add-put-decision c = search needs
 
--- src/update.rt:49:56
 add-put-decision-2 : tie.Need-add-put-decision-2
 add-put-decision-2 c = search needs
 
--- src/update.rt:49:71
 sub-put-decision : tie.Need-sub-put-decision
 sub-put-decision c = search needs
 
--- src/update.rt:49:71
 part-put-decision-start : tie.Need-part-put-decision-start
 part-put-decision-start c = search needs
 
--- src/update.rt:49:71
 part-put-decision-end : tie.Need-part-put-decision-end
 part-put-decision-end c = search needs
 
--- src/update.rt:49:5
 put-decision-requires : tie.Need-put-decision-requires
 put-decision-requires c κs = deciding-in _ _ _ _ _ _ _ _ (part-of 16 (c .before .before .before .before .put-two .last .1 .1 .1 .1 .0) (c .before .before .before .before .before .before .before .before .before .before .before .args .out .now) (c .before .before .before .before .put-two .kept .1 .1 .1 .1 .0) ∙ sym (length-drop 16 (c .before .before .before .before .before .before .before .before .before .before .before .args .out .now))) (c .before .before .before .before .before .before .before .before .before .before .before .pre .2)
 
--- src/update.rt:33:1
 same-length : tie.Need-same-length
 same-length c = search needs
 
--- src/update.rt:33:1
 returns : tie.Need-returns
 unfolding wordFor fieldsFor leftLines
 returns c = let a = c .before .before .before .before .before .before .before .before .before .before .before .before .before .before .args in

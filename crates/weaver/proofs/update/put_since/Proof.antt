@@ -1,124 +1,95 @@
-use Rattle.weaver.proofs.UpdateLaws.{since-size, left-size, right-size, since-right, since-end, since-code, length-end}
-use Rattle.weaver.proofs.OverLaws.{written-then, part-of}
-use Rattle.weaver.specs.Parts.{sinceEnd}
-use Rattle.weaver.specs.Laid.{tableIn, leftIn, rightIn}
-use Rattle.weaver.specs.Written.{written}
+-- `weaver::update::put_since` meets its contract: deciding right, and what follows into the rest (`UpdateLaws`). Assumes nothing.
+use mathlib.Core.Path.{refl, sym, ap, _∙_}
+use Prim.Native.Nat.{_+_, _-_, _*_}
+use native.Mathlib.Omega.{arith}
+use lib.ListN.{getD}
 use Rattle.spec.proofs.WeaverLaws.{length-decide}
 use Rattle.spec.proofs.RuleLaws.{rule-out}
 use Rattle.spec.specs.Weaver.{decide}
 use Rattle.spec.specs.Rule.{form32}
-use lib.ListN.{length, getD, drop, length-drop}
-use Prim.Native.Nat.{_+_, _-_, _*_, _≤_}
-use mathlib.Core.List.{[], _∷_, _++_}
-use mathlib.Core.Bool.{true, false}
+use Rattle.layout.specs.Layout.{tableIn}
 use Rattle.checker.specs.FactSets.{factsOf}
-use native.Mathlib.Omega.{arith}
-use mathlib.Core.Path.{_≡_, refl, sym, ap, ap₂, subst, _∙_}
+use Rattle.weaver.proofs.UpdateLaws.{since-size, left-size, right-size, since-right, since-end, since-code, length-end}
+use Rattle.weaver.proofs.OverLaws.{written-then, part-of}
+use Rattle.weaver.specs.Parts.{sinceEnd}
+use Rattle.weaver.specs.Laid.{leftIn, rightIn}
+use Rattle.weaver.specs.Written.{written}
 use borrow.Author.Needs.{needs}
 use Rattle.weaver.proofs.update.put_since.Statement.{statement}
 use Rattle.weaver.proofs.update.put_since.Tie as tie
-use Rattle.weaver.proofs.update.put_since.Reads as reads
-use Rattle.weaver.proofs.update.put_since.Lts as lts
-use Rattle.weaver.proofs.decision.put_decision.Reads as put-decision-reads
-use Rattle.weaver.proofs.update.put_since_end.Reads as put-since-end-reads
 
--- src/update.rt:87:16
 mul-word : tie.Need-mul-word
 mul-word c = search needs
 
--- src/update.rt:87:16
 shared-slice-read-word : tie.Need-shared-slice-read-word
 shared-slice-read-word c = search needs
 
--- src/update.rt:88:16
 cast-left : tie.Need-cast-left
 cast-left c = search needs
 
--- src/update.rt:89:17
 cast-right : tie.Need-cast-right
 cast-right c = search needs
 
--- src/update.rt:90:13
 mul-r : tie.Need-mul-r
 mul-r c = search needs
 
--- src/update.rt:90:13
 element-copy-out-r : tie.Need-element-copy-out-r
 element-copy-out-r c = search needs
 
--- src/update.rt:90:13
 cast-r : tie.Need-cast-r
 cast-r c = let z = (since-size (c .before .before .before .before .args .rule .now) (c .before .before .before .before .args .sizes .now) (c .before .before .before .before .args .k) (c .before .before .before .before .args .place) (c .before .before .before .before .args .out .now) (c .before .before .before .before .pre .0) (c .before .before .before .before .pre .1)) in let i = c .before .before .before .before .pre .0 .inScript in let o = c .before .before .before .before .pre .0 .inOutput in let l = (left-size (c .before .before .before .before .args .rule .now) (c .before .before .before .before .args .sizes .now) (c .before .before .before .before .args .k) (c .before .before .before .before .args .place) (c .before .before .before .before .args .out .now) (c .before .before .before .before .pre .0) (c .before .before .before .before .pre .1)) in let r = (right-size (c .before .before .before .before .args .rule .now) (c .before .before .before .before .args .sizes .now) (c .before .before .before .before .args .k) (c .before .before .before .before .args .place) (c .before .before .before .before .args .out .now) (c .before .before .before .before .pre .0) (c .before .before .before .before .pre .1)) in omega arith
 
--- src/update.rt:91:13
 mul-l : tie.Need-mul-l
 mul-l c = search needs
 
--- src/update.rt:91:13
 element-copy-out-l : tie.Need-element-copy-out-l
 element-copy-out-l c = search needs
 
--- src/update.rt:91:13
 cast-l : tie.Need-cast-l
 cast-l c = let z = (since-size (c .before .before .before .before .before .args .rule .now) (c .before .before .before .before .before .args .sizes .now) (c .before .before .before .before .before .args .k) (c .before .before .before .before .before .args .place) (c .before .before .before .before .before .args .out .now) (c .before .before .before .before .before .pre .0) (c .before .before .before .before .before .pre .1)) in let i = c .before .before .before .before .before .pre .0 .inScript in let o = c .before .before .before .before .before .pre .0 .inOutput in let l = (left-size (c .before .before .before .before .before .args .rule .now) (c .before .before .before .before .before .args .sizes .now) (c .before .before .before .before .before .args .k) (c .before .before .before .before .before .args .place) (c .before .before .before .before .before .args .out .now) (c .before .before .before .before .before .pre .0) (c .before .before .before .before .before .pre .1)) in let r = (right-size (c .before .before .before .before .before .args .rule .now) (c .before .before .before .before .before .args .sizes .now) (c .before .before .before .before .before .args .k) (c .before .before .before .before .before .args .place) (c .before .before .before .before .before .args .out .now) (c .before .before .before .before .before .pre .0) (c .before .before .before .before .before .pre .1)) in omega arith
 
--- src/update.rt:92:19
 add-test-at : tie.Need-add-test-at
 add-test-at c = let z = (since-size (c .before .before .before .before .before .args .rule .now) (c .before .before .before .before .before .args .sizes .now) (c .before .before .before .before .before .args .k) (c .before .before .before .before .before .args .place) (c .before .before .before .before .before .args .out .now) (c .before .before .before .before .before .pre .0) (c .before .before .before .before .before .pre .1)) in let i = c .before .before .before .before .before .pre .0 .inScript in let o = c .before .before .before .before .before .pre .0 .inOutput in let l = (left-size (c .before .before .before .before .before .args .rule .now) (c .before .before .before .before .before .args .sizes .now) (c .before .before .before .before .before .args .k) (c .before .before .before .before .before .args .place) (c .before .before .before .before .before .args .out .now) (c .before .before .before .before .before .pre .0) (c .before .before .before .before .before .pre .1)) in let r = (right-size (c .before .before .before .before .before .args .rule .now) (c .before .before .before .before .before .args .sizes .now) (c .before .before .before .before .before .args .k) (c .before .before .before .before .before .args .place) (c .before .before .before .before .before .args .out .now) (c .before .before .before .before .before .pre .0) (c .before .before .before .before .before .pre .1)) in omega arith
 
--- src/update.rt:93:45
 add-put-decision : tie.Need-add-put-decision
 add-put-decision c = let z = (since-size (c .before .before .before .before .before .args .rule .now) (c .before .before .before .before .before .args .sizes .now) (c .before .before .before .before .before .args .k) (c .before .before .before .before .before .args .place) (c .before .before .before .before .before .args .out .now) (c .before .before .before .before .before .pre .0) (c .before .before .before .before .before .pre .1)) in let i = c .before .before .before .before .before .pre .0 .inScript in let o = c .before .before .before .before .before .pre .0 .inOutput in let l = (left-size (c .before .before .before .before .before .args .rule .now) (c .before .before .before .before .before .args .sizes .now) (c .before .before .before .before .before .args .k) (c .before .before .before .before .before .args .place) (c .before .before .before .before .before .args .out .now) (c .before .before .before .before .before .pre .0) (c .before .before .before .before .before .pre .1)) in let r = (right-size (c .before .before .before .before .before .args .rule .now) (c .before .before .before .before .before .args .sizes .now) (c .before .before .before .before .before .args .k) (c .before .before .before .before .before .args .place) (c .before .before .before .before .before .args .out .now) (c .before .before .before .before .before .pre .0) (c .before .before .before .before .before .pre .1)) in omega arith
 
--- src/update.rt:93:45
 add-put-decision-2 : tie.Need-add-put-decision-2
 add-put-decision-2 c = let z = (since-size (c .before .before .before .before .before .args .rule .now) (c .before .before .before .before .before .args .sizes .now) (c .before .before .before .before .before .args .k) (c .before .before .before .before .before .args .place) (c .before .before .before .before .before .args .out .now) (c .before .before .before .before .before .pre .0) (c .before .before .before .before .before .pre .1)) in let i = c .before .before .before .before .before .pre .0 .inScript in let o = c .before .before .before .before .before .pre .0 .inOutput in let l = (left-size (c .before .before .before .before .before .args .rule .now) (c .before .before .before .before .before .args .sizes .now) (c .before .before .before .before .before .args .k) (c .before .before .before .before .before .args .place) (c .before .before .before .before .before .args .out .now) (c .before .before .before .before .before .pre .0) (c .before .before .before .before .before .pre .1)) in let r = (right-size (c .before .before .before .before .before .args .rule .now) (c .before .before .before .before .before .args .sizes .now) (c .before .before .before .before .before .args .k) (c .before .before .before .before .before .args .place) (c .before .before .before .before .before .args .out .now) (c .before .before .before .before .before .pre .0) (c .before .before .before .before .before .pre .1)) in omega arith
 
--- src/update.rt:93:5
 put-decision-requires : tie.Need-put-decision-requires
 put-decision-requires c κs = (since-right (c .before .before .before .before .before .before .args .rule .now) (c .before .before .before .before .before .before .args .sizes .now) (c .before .before .before .before .before .before .args .k) (c .before .before .before .before .before .before .args .place) (c .before .before .before .before .before .before .args .out .now) (c .before .before .before .before .before .before .pre .0) (c .before .before .before .before .before .before .pre .1))
 
--- src/update.rt:94:56
 mul-put-since-end : tie.Need-mul-put-since-end
 mul-put-since-end c = let z = (since-size (c .before .before .before .before .before .before .before .before .before .args .rule .now) (c .before .before .before .before .before .before .before .before .before .args .sizes .now) (c .before .before .before .before .before .before .before .before .before .args .k) (c .before .before .before .before .before .before .before .before .before .args .place) (c .before .before .before .before .before .before .before .before .before .args .out .now) (c .before .before .before .before .before .before .before .before .before .pre .0) (c .before .before .before .before .before .before .before .before .before .pre .1)) in let i = c .before .before .before .before .before .before .before .before .before .pre .0 .inScript in let o = c .before .before .before .before .before .before .before .before .before .pre .0 .inOutput in let l = (left-size (c .before .before .before .before .before .before .before .before .before .args .rule .now) (c .before .before .before .before .before .before .before .before .before .args .sizes .now) (c .before .before .before .before .before .before .before .before .before .args .k) (c .before .before .before .before .before .before .before .before .before .args .place) (c .before .before .before .before .before .before .before .before .before .args .out .now) (c .before .before .before .before .before .before .before .before .before .pre .0) (c .before .before .before .before .before .before .before .before .before .pre .1)) in let r = (right-size (c .before .before .before .before .before .before .before .before .before .args .rule .now) (c .before .before .before .before .before .before .before .before .before .args .sizes .now) (c .before .before .before .before .before .before .before .before .before .args .k) (c .before .before .before .before .before .before .before .before .before .args .place) (c .before .before .before .before .before .before .before .before .before .args .out .now) (c .before .before .before .before .before .before .before .before .before .pre .0) (c .before .before .before .before .before .before .before .before .before .pre .1)) in omega arith
 
--- src/update.rt:94:47
 mul-put-since-end-2 : tie.Need-mul-put-since-end-2
 mul-put-since-end-2 c = let z = (since-size (c .before .before .before .before .before .before .before .before .before .args .rule .now) (c .before .before .before .before .before .before .before .before .before .args .sizes .now) (c .before .before .before .before .before .before .before .before .before .args .k) (c .before .before .before .before .before .before .before .before .before .args .place) (c .before .before .before .before .before .before .before .before .before .args .out .now) (c .before .before .before .before .before .before .before .before .before .pre .0) (c .before .before .before .before .before .before .before .before .before .pre .1)) in let i = c .before .before .before .before .before .before .before .before .before .pre .0 .inScript in let o = c .before .before .before .before .before .before .before .before .before .pre .0 .inOutput in let l = (left-size (c .before .before .before .before .before .before .before .before .before .args .rule .now) (c .before .before .before .before .before .before .before .before .before .args .sizes .now) (c .before .before .before .before .before .before .before .before .before .args .k) (c .before .before .before .before .before .before .before .before .before .args .place) (c .before .before .before .before .before .before .before .before .before .args .out .now) (c .before .before .before .before .before .before .before .before .before .pre .0) (c .before .before .before .before .before .before .before .before .before .pre .1)) in let r = (right-size (c .before .before .before .before .before .before .before .before .before .args .rule .now) (c .before .before .before .before .before .before .before .before .before .args .sizes .now) (c .before .before .before .before .before .before .before .before .before .args .k) (c .before .before .before .before .before .before .before .before .before .args .place) (c .before .before .before .before .before .before .before .before .before .args .out .now) (c .before .before .before .before .before .before .before .before .before .pre .0) (c .before .before .before .before .before .before .before .before .before .pre .1)) in omega arith
 
--- src/update.rt:94:47
 sub-put-since-end : tie.Need-sub-put-since-end
 sub-put-since-end c = let z = (since-size (c .before .before .before .before .before .before .before .before .before .args .rule .now) (c .before .before .before .before .before .before .before .before .before .args .sizes .now) (c .before .before .before .before .before .before .before .before .before .args .k) (c .before .before .before .before .before .before .before .before .before .args .place) (c .before .before .before .before .before .before .before .before .before .args .out .now) (c .before .before .before .before .before .before .before .before .before .pre .0) (c .before .before .before .before .before .before .before .before .before .pre .1)) in let i = c .before .before .before .before .before .before .before .before .before .pre .0 .inScript in let o = c .before .before .before .before .before .before .before .before .before .pre .0 .inOutput in let l = (left-size (c .before .before .before .before .before .before .before .before .before .args .rule .now) (c .before .before .before .before .before .before .before .before .before .args .sizes .now) (c .before .before .before .before .before .before .before .before .before .args .k) (c .before .before .before .before .before .before .before .before .before .args .place) (c .before .before .before .before .before .before .before .before .before .args .out .now) (c .before .before .before .before .before .before .before .before .before .pre .0) (c .before .before .before .before .before .before .before .before .before .pre .1)) in let r = (right-size (c .before .before .before .before .before .before .before .before .before .args .rule .now) (c .before .before .before .before .before .before .before .before .before .args .sizes .now) (c .before .before .before .before .before .before .before .before .before .args .k) (c .before .before .before .before .before .before .before .before .before .args .place) (c .before .before .before .before .before .before .before .before .before .args .out .now) (c .before .before .before .before .before .before .before .before .before .pre .0) (c .before .before .before .before .before .before .before .before .before .pre .1)) in omega (arith, c .before .before .put-decision .kept .1 .1 .1 .1 .1 .1 .1 .0)
 
--- src/update.rt:94:47
 part-put-since-end-start : tie.Need-part-put-since-end-start
 part-put-since-end-start c = let z = (since-size (c .before .before .before .before .before .before .before .before .before .args .rule .now) (c .before .before .before .before .before .before .before .before .before .args .sizes .now) (c .before .before .before .before .before .before .before .before .before .args .k) (c .before .before .before .before .before .before .before .before .before .args .place) (c .before .before .before .before .before .before .before .before .before .args .out .now) (c .before .before .before .before .before .before .before .before .before .pre .0) (c .before .before .before .before .before .before .before .before .before .pre .1)) in let i = c .before .before .before .before .before .before .before .before .before .pre .0 .inScript in let o = c .before .before .before .before .before .before .before .before .before .pre .0 .inOutput in let l = (left-size (c .before .before .before .before .before .before .before .before .before .args .rule .now) (c .before .before .before .before .before .before .before .before .before .args .sizes .now) (c .before .before .before .before .before .before .before .before .before .args .k) (c .before .before .before .before .before .before .before .before .before .args .place) (c .before .before .before .before .before .before .before .before .before .args .out .now) (c .before .before .before .before .before .before .before .before .before .pre .0) (c .before .before .before .before .before .before .before .before .before .pre .1)) in let r = (right-size (c .before .before .before .before .before .before .before .before .before .args .rule .now) (c .before .before .before .before .before .before .before .before .before .args .sizes .now) (c .before .before .before .before .before .before .before .before .before .args .k) (c .before .before .before .before .before .before .before .before .before .args .place) (c .before .before .before .before .before .before .before .before .before .args .out .now) (c .before .before .before .before .before .before .before .before .before .pre .0) (c .before .before .before .before .before .before .before .before .before .pre .1)) in omega (arith, c .before .before .put-decision .kept .1 .1 .1 .1 .1 .1 .1 .0)
 
--- src/update.rt:94:47
 part-put-since-end-end : tie.Need-part-put-since-end-end
 part-put-since-end-end c = search needs
 
--- src/update.rt:94:5
 put-since-end-requires : tie.Need-put-since-end-requires
 put-since-end-requires c κs = (since-end (c .before .before .before .before .before .before .before .before .before .before .args .rule .now) (c .before .before .before .before .before .before .before .before .before .before .args .sizes .now) (c .before .before .before .before .before .before .before .before .before .before .args .k) (c .before .before .before .before .before .before .before .before .before .before .args .place) (c .before .before .before .before .before .before .before .before .before .before .args .out .now) (c .before .before .before .before .before .before .before .before .before .before .pre .0) (c .before .before .before .before .before .before .before .before .before .before .pre .1) _ (part-of _ (c .before .before .before .put-decision .last .1 .1 .1 .1 .1 .1 .1 .0) (c .before .before .before .before .before .before .before .before .before .before .args .out .now) (c .before .before .before .put-decision .kept .1 .1 .1 .1 .1 .1 .1 .0)))
 
--- src/update.rt:95:5
 add-result : tie.Need-add-result
 add-result c = let z = (since-size (c .before .before .before .before .before .before .before .before .before .before .before .before .before .args .rule .now) (c .before .before .before .before .before .before .before .before .before .before .before .before .before .args .sizes .now) (c .before .before .before .before .before .before .before .before .before .before .before .before .before .args .k) (c .before .before .before .before .before .before .before .before .before .before .before .before .before .args .place) (c .before .before .before .before .before .before .before .before .before .before .before .before .before .args .out .now) (c .before .before .before .before .before .before .before .before .before .before .before .before .before .pre .0) (c .before .before .before .before .before .before .before .before .before .before .before .before .before .pre .1)) in let i = c .before .before .before .before .before .before .before .before .before .before .before .before .before .pre .0 .inScript in let o = c .before .before .before .before .before .before .before .before .before .before .before .before .before .pre .0 .inOutput in let l = (left-size (c .before .before .before .before .before .before .before .before .before .before .before .before .before .args .rule .now) (c .before .before .before .before .before .before .before .before .before .before .before .before .before .args .sizes .now) (c .before .before .before .before .before .before .before .before .before .before .before .before .before .args .k) (c .before .before .before .before .before .before .before .before .before .before .before .before .before .args .place) (c .before .before .before .before .before .before .before .before .before .before .before .before .before .args .out .now) (c .before .before .before .before .before .before .before .before .before .before .before .before .before .pre .0) (c .before .before .before .before .before .before .before .before .before .before .before .before .before .pre .1)) in let r = (right-size (c .before .before .before .before .before .before .before .before .before .before .before .before .before .args .rule .now) (c .before .before .before .before .before .before .before .before .before .before .before .before .before .args .sizes .now) (c .before .before .before .before .before .before .before .before .before .before .before .before .before .args .k) (c .before .before .before .before .before .before .before .before .before .before .before .before .before .args .place) (c .before .before .before .before .before .before .before .before .before .before .before .before .before .args .out .now) (c .before .before .before .before .before .before .before .before .before .before .before .before .before .pre .0) (c .before .before .before .before .before .before .before .before .before .before .before .before .before .pre .1)) in omega arith
 
--- src/update.rt:95:5
 add-result-2 : tie.Need-add-result-2
 add-result-2 c = let z = (since-size (c .before .before .before .before .before .before .before .before .before .before .before .before .before .args .rule .now) (c .before .before .before .before .before .before .before .before .before .before .before .before .before .args .sizes .now) (c .before .before .before .before .before .before .before .before .before .before .before .before .before .args .k) (c .before .before .before .before .before .before .before .before .before .before .before .before .before .args .place) (c .before .before .before .before .before .before .before .before .before .before .before .before .before .args .out .now) (c .before .before .before .before .before .before .before .before .before .before .before .before .before .pre .0) (c .before .before .before .before .before .before .before .before .before .before .before .before .before .pre .1)) in let i = c .before .before .before .before .before .before .before .before .before .before .before .before .before .pre .0 .inScript in let o = c .before .before .before .before .before .before .before .before .before .before .before .before .before .pre .0 .inOutput in let l = (left-size (c .before .before .before .before .before .before .before .before .before .before .before .before .before .args .rule .now) (c .before .before .before .before .before .before .before .before .before .before .before .before .before .args .sizes .now) (c .before .before .before .before .before .before .before .before .before .before .before .before .before .args .k) (c .before .before .before .before .before .before .before .before .before .before .before .before .before .args .place) (c .before .before .before .before .before .before .before .before .before .before .before .before .before .args .out .now) (c .before .before .before .before .before .before .before .before .before .before .before .before .before .pre .0) (c .before .before .before .before .before .before .before .before .before .before .before .before .before .pre .1)) in let r = (right-size (c .before .before .before .before .before .before .before .before .before .before .before .before .before .args .rule .now) (c .before .before .before .before .before .before .before .before .before .before .before .before .before .args .sizes .now) (c .before .before .before .before .before .before .before .before .before .before .before .before .before .args .k) (c .before .before .before .before .before .before .before .before .before .before .before .before .before .args .place) (c .before .before .before .before .before .before .before .before .before .before .before .before .before .args .out .now) (c .before .before .before .before .before .before .before .before .before .before .before .before .before .pre .0) (c .before .before .before .before .before .before .before .before .before .before .before .before .before .pre .1)) in omega arith
 
--- src/update.rt:95:5
 add-result-3 : tie.Need-add-result-3
 add-result-3 c = let z = (since-size (c .before .before .before .before .before .before .before .before .before .before .before .before .before .args .rule .now) (c .before .before .before .before .before .before .before .before .before .before .before .before .before .args .sizes .now) (c .before .before .before .before .before .before .before .before .before .before .before .before .before .args .k) (c .before .before .before .before .before .before .before .before .before .before .before .before .before .args .place) (c .before .before .before .before .before .before .before .before .before .before .before .before .before .args .out .now) (c .before .before .before .before .before .before .before .before .before .before .before .before .before .pre .0) (c .before .before .before .before .before .before .before .before .before .before .before .before .before .pre .1)) in let i = c .before .before .before .before .before .before .before .before .before .before .before .before .before .pre .0 .inScript in let o = c .before .before .before .before .before .before .before .before .before .before .before .before .before .pre .0 .inOutput in let l = (left-size (c .before .before .before .before .before .before .before .before .before .before .before .before .before .args .rule .now) (c .before .before .before .before .before .before .before .before .before .before .before .before .before .args .sizes .now) (c .before .before .before .before .before .before .before .before .before .before .before .before .before .args .k) (c .before .before .before .before .before .before .before .before .before .before .before .before .before .args .place) (c .before .before .before .before .before .before .before .before .before .before .before .before .before .args .out .now) (c .before .before .before .before .before .before .before .before .before .before .before .before .before .pre .0) (c .before .before .before .before .before .before .before .before .before .before .before .before .before .pre .1)) in let r = (right-size (c .before .before .before .before .before .before .before .before .before .before .before .before .before .args .rule .now) (c .before .before .before .before .before .before .before .before .before .before .before .before .before .args .sizes .now) (c .before .before .before .before .before .before .before .before .before .before .before .before .before .args .k) (c .before .before .before .before .before .before .before .before .before .before .before .before .before .args .place) (c .before .before .before .before .before .before .before .before .before .before .before .before .before .args .out .now) (c .before .before .before .before .before .before .before .before .before .before .before .before .before .pre .0) (c .before .before .before .before .before .before .before .before .before .before .before .before .before .pre .1)) in omega arith
 
--- src/update.rt:75:1
 same-length : tie.Need-same-length
 same-length c = search needs
 
--- src/update.rt:75:1
 returns : tie.Need-returns
 returns c = let a = c .before .before .before .before .before .before .before .before .before .before .before .before .before .args in
     let F = factsOf (a .x) in

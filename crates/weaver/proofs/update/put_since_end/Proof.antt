@@ -1,107 +1,84 @@
-use Rattle.weaver.proofs.UpdateLaws.{end-few, end-size, end-left, length-left}
-use Rattle.weaver.proofs.GrowthLaws.{add-second}
-use Rattle.weaver.proofs.OverLaws.{written-then, part-of}
-use Rattle.weaver.specs.Parts.{leftLines, sinceEnd}
-use Rattle.weaver.specs.Laid.{tableIn, leftIn, rightIn}
-use Rattle.weaver.specs.Written.{written}
+-- `weaver::update::put_since_end` meets its contract: `put_left`, and the setting into the rest (`UpdateLaws`). Assumes nothing.
+use mathlib.Core.List.{_++_}
+use mathlib.Core.Bool.{true, false}
+use mathlib.Core.Path.{refl, sym, ap, ap₂, _∙_}
+use Prim.Native.Nat.{_+_, _-_, _*_}
+use native.Mathlib.Omega.{arith}
+use lib.ListN.{getD}
 use Rattle.spec.proofs.WeaverLaws.{length-setting}
 use Rattle.spec.proofs.RuleLaws.{rule-out}
 use Rattle.spec.specs.Weaver.{setting}
 use Rattle.spec.specs.Rule.{form32}
-use Rattle.spec.specs.Facts.{valueIs, _∪_, one}
-use lib.ListN.{length, getD, drop, length-drop}
-use Prim.Native.Nat.{_+_, _-_, _*_, _≤_}
-use mathlib.Core.List.{[], _∷_, _++_}
-use mathlib.Core.Bool.{true, false}
+use Rattle.spec.specs.Facts.{valueIs, one}
+use Rattle.layout.specs.Layout.{tableIn}
 use Rattle.checker.specs.FactSets.{factsOf}
-use native.Mathlib.Omega.{arith}
-use mathlib.Core.Path.{_≡_, refl, sym, ap, ap₂, subst, _∙_}
+use Rattle.weaver.proofs.UpdateLaws.{end-few, end-size, end-left, length-left}
+use Rattle.weaver.proofs.GrowthLaws.{add-second}
+use Rattle.weaver.proofs.OverLaws.{written-then, part-of}
+use Rattle.weaver.specs.Parts.{leftLines, sinceEnd}
+use Rattle.weaver.specs.Laid.{leftIn, rightIn}
+use Rattle.weaver.specs.Written.{written}
 use borrow.Author.Needs.{needs}
 use Rattle.weaver.proofs.update.put_since_end.Statement.{statement}
 use Rattle.weaver.proofs.update.put_since_end.Tie as tie
-use Rattle.weaver.proofs.update.put_since_end.Reads as reads
-use Rattle.weaver.proofs.update.put_since_end.Lts as lts
-use Rattle.checker.proofs.facts.learn_value.Reads as learn-value-reads
-use Rattle.weaver.proofs.update.put_left.Reads as put-left-reads
-use Rattle.weaver.proofs.update.put_setting.Reads as put-setting-reads
 
--- src/update.rt:64:16
 mul-word : tie.Need-mul-word
 mul-word c = search needs
 
--- src/update.rt:64:16
 shared-slice-read-word : tie.Need-shared-slice-read-word
 shared-slice-read-word c = search needs
 
--- src/update.rt:65:16
 cast-left : tie.Need-cast-left
 cast-left c = search needs
 
--- src/update.rt:66:17
 cast-right : tie.Need-cast-right
 cast-right c = search needs
 
--- src/update.rt:67:13
 mul-l : tie.Need-mul-l
 mul-l c = search needs
 
--- src/update.rt:67:13
 element-copy-out-l : tie.Need-element-copy-out-l
 element-copy-out-l c = search needs
 
--- src/update.rt:67:13
 cast-l : tie.Need-cast-l
 cast-l c = let z = (end-size (c .before .before .before .before .args .rule .now) (c .before .before .before .before .args .sizes .now) (c .before .before .before .before .args .k) (c .before .before .before .before .args .place) (c .before .before .before .before .args .out .now) (c .before .before .before .before .pre)) in let i = c .before .before .before .before .pre .inScript in let o = c .before .before .before .before .pre .inOutput in omega arith
 
--- src/update.rt:68:18
 add-set-at : tie.Need-add-set-at
 add-set-at c = search needs
 
--- src/update.rt:68:18
 add-set-at-2 : tie.Need-add-set-at-2
 add-set-at-2 c = let z = (end-size (c .before .before .before .before .args .rule .now) (c .before .before .before .before .args .sizes .now) (c .before .before .before .before .args .k) (c .before .before .before .before .args .place) (c .before .before .before .before .args .out .now) (c .before .before .before .before .pre)) in let i = c .before .before .before .before .pre .inScript in let o = c .before .before .before .before .pre .inOutput in omega arith
 
--- src/update.rt:69:9
 learn-value-requires : tie.Need-learn-value-requires
 learn-value-requires c κs = search needs
 
--- src/update.rt:70:5
 put-left-requires : tie.Need-put-left-requires
 put-left-requires c κs = let z = (end-size (c .before .before .before .before .before .before .args .rule .now) (c .before .before .before .before .before .before .args .sizes .now) (c .before .before .before .before .before .before .args .k) (c .before .before .before .before .before .before .args .place) (c .before .before .before .before .before .before .args .out .now) (c .before .before .before .before .before .before .pre)) in let i = c .before .before .before .before .before .before .pre .inScript in let o = c .before .before .before .before .before .before .pre .inOutput in let f = (end-few (c .before .before .before .before .before .before .args .rule .now) (c .before .before .before .before .before .before .args .sizes .now) (c .before .before .before .before .before .before .args .k) (c .before .before .before .before .before .before .args .place) (c .before .before .before .before .before .before .args .out .now) (c .before .before .before .before .before .before .pre)) in (omega arith, omega arith, (end-left (c .before .before .before .before .before .before .args .rule .now) (c .before .before .before .before .before .before .args .sizes .now) (c .before .before .before .before .before .before .args .k) (c .before .before .before .before .before .before .args .place) (c .before .before .before .before .before .before .args .out .now) (c .before .before .before .before .before .before .pre)))
 
--- src/update.rt:71:48
 add-put-setting : tie.Need-add-put-setting
 add-put-setting c = let z = (end-size (c .before .before .before .before .before .before .before .before .before .args .rule .now) (c .before .before .before .before .before .before .before .before .before .args .sizes .now) (c .before .before .before .before .before .before .before .before .before .args .k) (c .before .before .before .before .before .before .before .before .before .args .place) (c .before .before .before .before .before .before .before .before .before .args .out .now) (c .before .before .before .before .before .before .before .before .before .pre)) in let i = c .before .before .before .before .before .before .before .before .before .pre .inScript in let o = c .before .before .before .before .before .before .before .before .before .pre .inOutput in omega arith
 
--- src/update.rt:71:43
 mul-put-setting : tie.Need-mul-put-setting
 mul-put-setting c = let z = (end-size (c .before .before .before .before .before .before .before .before .before .args .rule .now) (c .before .before .before .before .before .before .before .before .before .args .sizes .now) (c .before .before .before .before .before .before .before .before .before .args .k) (c .before .before .before .before .before .before .before .before .before .args .place) (c .before .before .before .before .before .before .before .before .before .args .out .now) (c .before .before .before .before .before .before .before .before .before .pre)) in let i = c .before .before .before .before .before .before .before .before .before .pre .inScript in let o = c .before .before .before .before .before .before .before .before .before .pre .inOutput in omega arith
 
--- src/update.rt:71:34
 mul-put-setting-2 : tie.Need-mul-put-setting-2
 mul-put-setting-2 c = let z = (end-size (c .before .before .before .before .before .before .before .before .before .args .rule .now) (c .before .before .before .before .before .before .before .before .before .args .sizes .now) (c .before .before .before .before .before .before .before .before .before .args .k) (c .before .before .before .before .before .before .before .before .before .args .place) (c .before .before .before .before .before .before .before .before .before .args .out .now) (c .before .before .before .before .before .before .before .before .before .pre)) in let i = c .before .before .before .before .before .before .before .before .before .pre .inScript in let o = c .before .before .before .before .before .before .before .before .before .pre .inOutput in omega arith
 
--- src/update.rt:71:34
 sub-put-setting : tie.Need-sub-put-setting
 sub-put-setting c = let z = (end-size (c .before .before .before .before .before .before .before .before .before .args .rule .now) (c .before .before .before .before .before .before .before .before .before .args .sizes .now) (c .before .before .before .before .before .before .before .before .before .args .k) (c .before .before .before .before .before .before .before .before .before .args .place) (c .before .before .before .before .before .before .before .before .before .args .out .now) (c .before .before .before .before .before .before .before .before .before .pre)) in let i = c .before .before .before .before .before .before .before .before .before .pre .inScript in let o = c .before .before .before .before .before .before .before .before .before .pre .inOutput in omega (arith, c .before .before .put-left .kept .1 .1 .1 .1 .1 .1 .1 .0)
 
--- src/update.rt:71:34
 part-put-setting-start : tie.Need-part-put-setting-start
 part-put-setting-start c = let z = (end-size (c .before .before .before .before .before .before .before .before .before .args .rule .now) (c .before .before .before .before .before .before .before .before .before .args .sizes .now) (c .before .before .before .before .before .before .before .before .before .args .k) (c .before .before .before .before .before .before .before .before .before .args .place) (c .before .before .before .before .before .before .before .before .before .args .out .now) (c .before .before .before .before .before .before .before .before .before .pre)) in let i = c .before .before .before .before .before .before .before .before .before .pre .inScript in let o = c .before .before .before .before .before .before .before .before .before .pre .inOutput in omega (arith, c .before .before .put-left .kept .1 .1 .1 .1 .1 .1 .1 .0)
 
--- src/update.rt:71:34
 part-put-setting-end : tie.Need-part-put-setting-end
 part-put-setting-end c = search needs
 
--- src/update.rt:71:5
 put-setting-requires : tie.Need-put-setting-requires
 put-setting-requires c κs = let z = (end-size (c .before .before .before .before .before .before .before .before .before .before .args .rule .now) (c .before .before .before .before .before .before .before .before .before .before .args .sizes .now) (c .before .before .before .before .before .before .before .before .before .before .args .k) (c .before .before .before .before .before .before .before .before .before .before .args .place) (c .before .before .before .before .before .before .before .before .before .before .args .out .now) (c .before .before .before .before .before .before .before .before .before .before .pre)) in let i = c .before .before .before .before .before .before .before .before .before .before .pre .inScript in let o = c .before .before .before .before .before .before .before .before .before .before .pre .inOutput in let f = (end-few (c .before .before .before .before .before .before .before .before .before .before .args .rule .now) (c .before .before .before .before .before .before .before .before .before .before .args .sizes .now) (c .before .before .before .before .before .before .before .before .before .before .args .k) (c .before .before .before .before .before .before .before .before .before .before .args .place) (c .before .before .before .before .before .before .before .before .before .before .args .out .now) (c .before .before .before .before .before .before .before .before .before .before .pre)) in let p = part-of (8 * (2 + getD (c .before .before .before .before .before .before .before .before .before .before .args .sizes .now) (leftIn (c .before .before .before .before .before .before .before .before .before .before .args .rule .now) (c .before .before .before .before .before .before .before .before .before .before .args .k)) 0)) (c .before .before .before .put-left .last .1 .1 .1 .1 .1 .1 .1 .0) (c .before .before .before .before .before .before .before .before .before .before .args .out .now) (c .before .before .before .put-left .kept .1 .1 .1 .1 .1 .1 .1 .0) in (omega arith, omega arith, omega arith, omega arith)
 
--- src/update.rt:53:1
 same-length : tie.Need-same-length
 same-length c = search needs
 
--- src/update.rt:53:1
 returns : tie.Need-returns
 unfolding sinceEnd
 returns c = let a = c .before .before .before .before .before .before .before .before .before .before .before .before .before .args in

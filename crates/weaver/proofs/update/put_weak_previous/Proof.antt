@@ -1,95 +1,74 @@
-use Rattle.weaver.proofs.UpdateLaws.{node-few, weak-lower, weak-left-size, weak-size, weak-left, weak-code}
-use Rattle.weaver.proofs.OverLaws.{written-then, part-of}
-use Rattle.weaver.specs.Laid.{tableIn, leftIn}
-use Rattle.weaver.specs.Written.{written}
+-- `weaver::update::put_weak_previous` meets its contract: deciding the operand, and the setting into the rest (`UpdateLaws`). Assumes
+-- nothing.
+use mathlib.Core.Path.{refl, sym, ap, _∙_}
+use Prim.Native.Nat.{_+_, _-_, _*_}
+use native.Mathlib.Omega.{arith}
+use lib.ListN.{getD}
 use Rattle.spec.proofs.WeaverLaws.{length-decide, length-setting}
 use Rattle.spec.proofs.RuleLaws.{rule-out}
 use Rattle.spec.specs.Weaver.{decide, setting}
 use Rattle.spec.specs.Rule.{form32}
-use lib.ListN.{length, getD, drop, length-drop}
-use Prim.Native.Nat.{_+_, _-_, _*_, _≤_}
-use mathlib.Core.List.{[], _∷_, _++_}
-use mathlib.Core.Bool.{true, false}
+use Rattle.layout.specs.Layout.{tableIn}
 use Rattle.checker.specs.FactSets.{factsOf}
-use native.Mathlib.Omega.{arith}
-use mathlib.Core.Path.{_≡_, refl, sym, ap, ap₂, subst, _∙_}
+use Rattle.weaver.proofs.UpdateLaws.{node-few, weak-lower, weak-left-size, weak-size, weak-left, weak-code}
+use Rattle.weaver.proofs.OverLaws.{written-then, part-of}
+use Rattle.weaver.specs.Laid.{leftIn}
+use Rattle.weaver.specs.Written.{written}
 use borrow.Author.Needs.{needs}
 use Rattle.weaver.proofs.update.put_weak_previous.Statement.{statement}
 use Rattle.weaver.proofs.update.put_weak_previous.Tie as tie
-use Rattle.weaver.proofs.update.put_weak_previous.Reads as reads
-use Rattle.weaver.proofs.update.put_weak_previous.Lts as lts
-use Rattle.weaver.proofs.decision.put_decision.Reads as put-decision-reads
-use Rattle.weaver.proofs.update.put_setting.Reads as put-setting-reads
 
--- src/update.rt:109:17
 mul-left : tie.Need-mul-left
 mul-left c = search needs
 
--- src/update.rt:109:17
 shared-slice-read-left : tie.Need-shared-slice-read-left
 shared-slice-read-left c = search needs
 
--- src/update.rt:109:16
 cast-left : tie.Need-cast-left
 cast-left c = search needs
 
--- src/update.rt:110:13
 mul-l : tie.Need-mul-l
 mul-l c = search needs
 
--- src/update.rt:110:13
 element-copy-out-l : tie.Need-element-copy-out-l
 element-copy-out-l c = search needs
 
--- src/update.rt:110:13
 cast-l : tie.Need-cast-l
 cast-l c = let z = (weak-size (c .before .before .before .before .args .rule .now) (c .before .before .before .before .args .sizes .now) (c .before .before .before .before .args .k) (c .before .before .before .before .args .place) (c .before .before .before .before .args .out .now) (c .before .before .before .before .pre .0) (c .before .before .before .before .pre .1)) in let i = c .before .before .before .before .pre .0 .inScript in let o = c .before .before .before .before .pre .0 .inOutput in let l = (weak-left-size (c .before .before .before .before .args .rule .now) (c .before .before .before .before .args .sizes .now) (c .before .before .before .before .args .k) (c .before .before .before .before .args .place) (c .before .before .before .before .args .out .now) (c .before .before .before .before .pre .0) (c .before .before .before .before .pre .1)) in let f = (node-few (c .before .before .before .before .args .rule .now) (c .before .before .before .before .args .sizes .now) (c .before .before .before .before .args .k) (c .before .before .before .before .args .place) (c .before .before .before .before .args .out .now) (c .before .before .before .before .pre .0)) in let b = (weak-lower (c .before .before .before .before .args .rule .now) (c .before .before .before .before .args .sizes .now) (c .before .before .before .before .args .k) (c .before .before .before .before .args .place) (c .before .before .before .before .args .out .now) (c .before .before .before .before .pre .0) (c .before .before .before .before .pre .1)) in omega arith
 
--- src/update.rt:111:18
 add-set-at : tie.Need-add-set-at
 add-set-at c = let z = (weak-size (c .before .before .before .before .args .rule .now) (c .before .before .before .before .args .sizes .now) (c .before .before .before .before .args .k) (c .before .before .before .before .args .place) (c .before .before .before .before .args .out .now) (c .before .before .before .before .pre .0) (c .before .before .before .before .pre .1)) in let i = c .before .before .before .before .pre .0 .inScript in let o = c .before .before .before .before .pre .0 .inOutput in let l = (weak-left-size (c .before .before .before .before .args .rule .now) (c .before .before .before .before .args .sizes .now) (c .before .before .before .before .args .k) (c .before .before .before .before .args .place) (c .before .before .before .before .args .out .now) (c .before .before .before .before .pre .0) (c .before .before .before .before .pre .1)) in let f = (node-few (c .before .before .before .before .args .rule .now) (c .before .before .before .before .args .sizes .now) (c .before .before .before .before .args .k) (c .before .before .before .before .args .place) (c .before .before .before .before .args .out .now) (c .before .before .before .before .pre .0)) in let b = (weak-lower (c .before .before .before .before .args .rule .now) (c .before .before .before .before .args .sizes .now) (c .before .before .before .before .args .k) (c .before .before .before .before .args .place) (c .before .before .before .before .args .out .now) (c .before .before .before .before .pre .0) (c .before .before .before .before .pre .1)) in omega arith
 
--- src/update.rt:112:52
 add-put-decision : tie.Need-add-put-decision
 add-put-decision c = let z = (weak-size (c .before .before .before .before .args .rule .now) (c .before .before .before .before .args .sizes .now) (c .before .before .before .before .args .k) (c .before .before .before .before .args .place) (c .before .before .before .before .args .out .now) (c .before .before .before .before .pre .0) (c .before .before .before .before .pre .1)) in let i = c .before .before .before .before .pre .0 .inScript in let o = c .before .before .before .before .pre .0 .inOutput in let l = (weak-left-size (c .before .before .before .before .args .rule .now) (c .before .before .before .before .args .sizes .now) (c .before .before .before .before .args .k) (c .before .before .before .before .args .place) (c .before .before .before .before .args .out .now) (c .before .before .before .before .pre .0) (c .before .before .before .before .pre .1)) in let f = (node-few (c .before .before .before .before .args .rule .now) (c .before .before .before .before .args .sizes .now) (c .before .before .before .before .args .k) (c .before .before .before .before .args .place) (c .before .before .before .before .args .out .now) (c .before .before .before .before .pre .0)) in let b = (weak-lower (c .before .before .before .before .args .rule .now) (c .before .before .before .before .args .sizes .now) (c .before .before .before .before .args .k) (c .before .before .before .before .args .place) (c .before .before .before .before .args .out .now) (c .before .before .before .before .pre .0) (c .before .before .before .before .pre .1)) in omega arith
 
--- src/update.rt:112:5
 put-decision-requires : tie.Need-put-decision-requires
 put-decision-requires c κs = (weak-left (c .before .before .before .before .before .args .rule .now) (c .before .before .before .before .before .args .sizes .now) (c .before .before .before .before .before .args .k) (c .before .before .before .before .before .args .place) (c .before .before .before .before .before .args .out .now) (c .before .before .before .before .before .pre .0) (c .before .before .before .before .before .pre .1))
 
--- src/update.rt:113:46
 mul-put-setting : tie.Need-mul-put-setting
 mul-put-setting c = let z = (weak-size (c .before .before .before .before .before .before .before .before .args .rule .now) (c .before .before .before .before .before .before .before .before .args .sizes .now) (c .before .before .before .before .before .before .before .before .args .k) (c .before .before .before .before .before .before .before .before .args .place) (c .before .before .before .before .before .before .before .before .args .out .now) (c .before .before .before .before .before .before .before .before .pre .0) (c .before .before .before .before .before .before .before .before .pre .1)) in let i = c .before .before .before .before .before .before .before .before .pre .0 .inScript in let o = c .before .before .before .before .before .before .before .before .pre .0 .inOutput in let l = (weak-left-size (c .before .before .before .before .before .before .before .before .args .rule .now) (c .before .before .before .before .before .before .before .before .args .sizes .now) (c .before .before .before .before .before .before .before .before .args .k) (c .before .before .before .before .before .before .before .before .args .place) (c .before .before .before .before .before .before .before .before .args .out .now) (c .before .before .before .before .before .before .before .before .pre .0) (c .before .before .before .before .before .before .before .before .pre .1)) in let f = (node-few (c .before .before .before .before .before .before .before .before .args .rule .now) (c .before .before .before .before .before .before .before .before .args .sizes .now) (c .before .before .before .before .before .before .before .before .args .k) (c .before .before .before .before .before .before .before .before .args .place) (c .before .before .before .before .before .before .before .before .args .out .now) (c .before .before .before .before .before .before .before .before .pre .0)) in let b = (weak-lower (c .before .before .before .before .before .before .before .before .args .rule .now) (c .before .before .before .before .before .before .before .before .args .sizes .now) (c .before .before .before .before .before .before .before .before .args .k) (c .before .before .before .before .before .before .before .before .args .place) (c .before .before .before .before .before .before .before .before .args .out .now) (c .before .before .before .before .before .before .before .before .pre .0) (c .before .before .before .before .before .before .before .before .pre .1)) in omega arith
 
--- src/update.rt:113:37
 mul-put-setting-2 : tie.Need-mul-put-setting-2
 mul-put-setting-2 c = let z = (weak-size (c .before .before .before .before .before .before .before .before .args .rule .now) (c .before .before .before .before .before .before .before .before .args .sizes .now) (c .before .before .before .before .before .before .before .before .args .k) (c .before .before .before .before .before .before .before .before .args .place) (c .before .before .before .before .before .before .before .before .args .out .now) (c .before .before .before .before .before .before .before .before .pre .0) (c .before .before .before .before .before .before .before .before .pre .1)) in let i = c .before .before .before .before .before .before .before .before .pre .0 .inScript in let o = c .before .before .before .before .before .before .before .before .pre .0 .inOutput in let l = (weak-left-size (c .before .before .before .before .before .before .before .before .args .rule .now) (c .before .before .before .before .before .before .before .before .args .sizes .now) (c .before .before .before .before .before .before .before .before .args .k) (c .before .before .before .before .before .before .before .before .args .place) (c .before .before .before .before .before .before .before .before .args .out .now) (c .before .before .before .before .before .before .before .before .pre .0) (c .before .before .before .before .before .before .before .before .pre .1)) in let f = (node-few (c .before .before .before .before .before .before .before .before .args .rule .now) (c .before .before .before .before .before .before .before .before .args .sizes .now) (c .before .before .before .before .before .before .before .before .args .k) (c .before .before .before .before .before .before .before .before .args .place) (c .before .before .before .before .before .before .before .before .args .out .now) (c .before .before .before .before .before .before .before .before .pre .0)) in let b = (weak-lower (c .before .before .before .before .before .before .before .before .args .rule .now) (c .before .before .before .before .before .before .before .before .args .sizes .now) (c .before .before .before .before .before .before .before .before .args .k) (c .before .before .before .before .before .before .before .before .args .place) (c .before .before .before .before .before .before .before .before .args .out .now) (c .before .before .before .before .before .before .before .before .pre .0) (c .before .before .before .before .before .before .before .before .pre .1)) in omega arith
 
--- src/update.rt:113:37
 sub-put-setting : tie.Need-sub-put-setting
 sub-put-setting c = let z = (weak-size (c .before .before .before .before .before .before .before .before .args .rule .now) (c .before .before .before .before .before .before .before .before .args .sizes .now) (c .before .before .before .before .before .before .before .before .args .k) (c .before .before .before .before .before .before .before .before .args .place) (c .before .before .before .before .before .before .before .before .args .out .now) (c .before .before .before .before .before .before .before .before .pre .0) (c .before .before .before .before .before .before .before .before .pre .1)) in let i = c .before .before .before .before .before .before .before .before .pre .0 .inScript in let o = c .before .before .before .before .before .before .before .before .pre .0 .inOutput in let l = (weak-left-size (c .before .before .before .before .before .before .before .before .args .rule .now) (c .before .before .before .before .before .before .before .before .args .sizes .now) (c .before .before .before .before .before .before .before .before .args .k) (c .before .before .before .before .before .before .before .before .args .place) (c .before .before .before .before .before .before .before .before .args .out .now) (c .before .before .before .before .before .before .before .before .pre .0) (c .before .before .before .before .before .before .before .before .pre .1)) in let f = (node-few (c .before .before .before .before .before .before .before .before .args .rule .now) (c .before .before .before .before .before .before .before .before .args .sizes .now) (c .before .before .before .before .before .before .before .before .args .k) (c .before .before .before .before .before .before .before .before .args .place) (c .before .before .before .before .before .before .before .before .args .out .now) (c .before .before .before .before .before .before .before .before .pre .0)) in let b = (weak-lower (c .before .before .before .before .before .before .before .before .args .rule .now) (c .before .before .before .before .before .before .before .before .args .sizes .now) (c .before .before .before .before .before .before .before .before .args .k) (c .before .before .before .before .before .before .before .before .args .place) (c .before .before .before .before .before .before .before .before .args .out .now) (c .before .before .before .before .before .before .before .before .pre .0) (c .before .before .before .before .before .before .before .before .pre .1)) in omega (arith, c .before .before .put-decision .kept .1 .1 .1 .1 .1 .1 .1 .0)
 
--- src/update.rt:113:37
 part-put-setting-start : tie.Need-part-put-setting-start
 part-put-setting-start c = let z = (weak-size (c .before .before .before .before .before .before .before .before .args .rule .now) (c .before .before .before .before .before .before .before .before .args .sizes .now) (c .before .before .before .before .before .before .before .before .args .k) (c .before .before .before .before .before .before .before .before .args .place) (c .before .before .before .before .before .before .before .before .args .out .now) (c .before .before .before .before .before .before .before .before .pre .0) (c .before .before .before .before .before .before .before .before .pre .1)) in let i = c .before .before .before .before .before .before .before .before .pre .0 .inScript in let o = c .before .before .before .before .before .before .before .before .pre .0 .inOutput in let l = (weak-left-size (c .before .before .before .before .before .before .before .before .args .rule .now) (c .before .before .before .before .before .before .before .before .args .sizes .now) (c .before .before .before .before .before .before .before .before .args .k) (c .before .before .before .before .before .before .before .before .args .place) (c .before .before .before .before .before .before .before .before .args .out .now) (c .before .before .before .before .before .before .before .before .pre .0) (c .before .before .before .before .before .before .before .before .pre .1)) in let f = (node-few (c .before .before .before .before .before .before .before .before .args .rule .now) (c .before .before .before .before .before .before .before .before .args .sizes .now) (c .before .before .before .before .before .before .before .before .args .k) (c .before .before .before .before .before .before .before .before .args .place) (c .before .before .before .before .before .before .before .before .args .out .now) (c .before .before .before .before .before .before .before .before .pre .0)) in let b = (weak-lower (c .before .before .before .before .before .before .before .before .args .rule .now) (c .before .before .before .before .before .before .before .before .args .sizes .now) (c .before .before .before .before .before .before .before .before .args .k) (c .before .before .before .before .before .before .before .before .args .place) (c .before .before .before .before .before .before .before .before .args .out .now) (c .before .before .before .before .before .before .before .before .pre .0) (c .before .before .before .before .before .before .before .before .pre .1)) in omega (arith, c .before .before .put-decision .kept .1 .1 .1 .1 .1 .1 .1 .0)
 
--- src/update.rt:113:37
 part-put-setting-end : tie.Need-part-put-setting-end
 part-put-setting-end c = search needs
 
--- src/update.rt:113:5
 put-setting-requires : tie.Need-put-setting-requires
 put-setting-requires c κs = let z = (weak-size (c .before .before .before .before .before .before .before .before .before .args .rule .now) (c .before .before .before .before .before .before .before .before .before .args .sizes .now) (c .before .before .before .before .before .before .before .before .before .args .k) (c .before .before .before .before .before .before .before .before .before .args .place) (c .before .before .before .before .before .before .before .before .before .args .out .now) (c .before .before .before .before .before .before .before .before .before .pre .0) (c .before .before .before .before .before .before .before .before .before .pre .1)) in let i = c .before .before .before .before .before .before .before .before .before .pre .0 .inScript in let o = c .before .before .before .before .before .before .before .before .before .pre .0 .inOutput in let l = (weak-left-size (c .before .before .before .before .before .before .before .before .before .args .rule .now) (c .before .before .before .before .before .before .before .before .before .args .sizes .now) (c .before .before .before .before .before .before .before .before .before .args .k) (c .before .before .before .before .before .before .before .before .before .args .place) (c .before .before .before .before .before .before .before .before .before .args .out .now) (c .before .before .before .before .before .before .before .before .before .pre .0) (c .before .before .before .before .before .before .before .before .before .pre .1)) in let f = (node-few (c .before .before .before .before .before .before .before .before .before .args .rule .now) (c .before .before .before .before .before .before .before .before .before .args .sizes .now) (c .before .before .before .before .before .before .before .before .before .args .k) (c .before .before .before .before .before .before .before .before .before .args .place) (c .before .before .before .before .before .before .before .before .before .args .out .now) (c .before .before .before .before .before .before .before .before .before .pre .0)) in let b = (weak-lower (c .before .before .before .before .before .before .before .before .before .args .rule .now) (c .before .before .before .before .before .before .before .before .before .args .sizes .now) (c .before .before .before .before .before .before .before .before .before .args .k) (c .before .before .before .before .before .before .before .before .before .args .place) (c .before .before .before .before .before .before .before .before .before .args .out .now) (c .before .before .before .before .before .before .before .before .before .pre .0) (c .before .before .before .before .before .before .before .before .before .pre .1)) in let p = part-of (8 * getD (c .before .before .before .before .before .before .before .before .before .args .sizes .now) (leftIn (c .before .before .before .before .before .before .before .before .before .args .rule .now) (c .before .before .before .before .before .before .before .before .before .args .k)) 0) (c .before .before .before .put-decision .last .1 .1 .1 .1 .1 .1 .1 .0) (c .before .before .before .before .before .before .before .before .before .args .out .now) (c .before .before .before .put-decision .kept .1 .1 .1 .1 .1 .1 .1 .0) in (omega arith, omega arith, omega arith, omega arith)
 
--- src/update.rt:114:5
 add-result : tie.Need-add-result
 add-result c = let z = (weak-size (c .before .before .before .before .before .before .before .before .before .before .before .before .args .rule .now) (c .before .before .before .before .before .before .before .before .before .before .before .before .args .sizes .now) (c .before .before .before .before .before .before .before .before .before .before .before .before .args .k) (c .before .before .before .before .before .before .before .before .before .before .before .before .args .place) (c .before .before .before .before .before .before .before .before .before .before .before .before .args .out .now) (c .before .before .before .before .before .before .before .before .before .before .before .before .pre .0) (c .before .before .before .before .before .before .before .before .before .before .before .before .pre .1)) in let i = c .before .before .before .before .before .before .before .before .before .before .before .before .pre .0 .inScript in let o = c .before .before .before .before .before .before .before .before .before .before .before .before .pre .0 .inOutput in let l = (weak-left-size (c .before .before .before .before .before .before .before .before .before .before .before .before .args .rule .now) (c .before .before .before .before .before .before .before .before .before .before .before .before .args .sizes .now) (c .before .before .before .before .before .before .before .before .before .before .before .before .args .k) (c .before .before .before .before .before .before .before .before .before .before .before .before .args .place) (c .before .before .before .before .before .before .before .before .before .before .before .before .args .out .now) (c .before .before .before .before .before .before .before .before .before .before .before .before .pre .0) (c .before .before .before .before .before .before .before .before .before .before .before .before .pre .1)) in let f = (node-few (c .before .before .before .before .before .before .before .before .before .before .before .before .args .rule .now) (c .before .before .before .before .before .before .before .before .before .before .before .before .args .sizes .now) (c .before .before .before .before .before .before .before .before .before .before .before .before .args .k) (c .before .before .before .before .before .before .before .before .before .before .before .before .args .place) (c .before .before .before .before .before .before .before .before .before .before .before .before .args .out .now) (c .before .before .before .before .before .before .before .before .before .before .before .before .pre .0)) in let b = (weak-lower (c .before .before .before .before .before .before .before .before .before .before .before .before .args .rule .now) (c .before .before .before .before .before .before .before .before .before .before .before .before .args .sizes .now) (c .before .before .before .before .before .before .before .before .before .before .before .before .args .k) (c .before .before .before .before .before .before .before .before .before .before .before .before .args .place) (c .before .before .before .before .before .before .before .before .before .before .before .before .args .out .now) (c .before .before .before .before .before .before .before .before .before .before .before .before .pre .0) (c .before .before .before .before .before .before .before .before .before .before .before .before .pre .1)) in omega arith
 
--- src/update.rt:97:1
 same-length : tie.Need-same-length
 same-length c = search needs
 
--- src/update.rt:97:1
 returns : tie.Need-returns
 returns c = let a = c .before .before .before .before .before .before .before .before .before .before .before .before .args in
     let F = factsOf (a .x) in
