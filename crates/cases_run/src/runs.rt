@@ -73,7 +73,7 @@ fn long(high: u32, low: u32) -> u64 {
 
 // What a run, or a number of steps, makes of a script. From word `at` on: input count, inputs, the budget or the number of steps as two
 // words, the length of the lent history. A lent history has 60,000 everywhere, which no register can hold.
-pub fn answer_machine(s: &[u8], kind: u32, rule: &[u32], script: &[u32], at: usize)
+pub(crate) fn answer_machine(s: &[u8], kind: u32, rule: &[u32], script: &[u32], at: usize)
     requires { ⌜ at ≤ 100000 ⌝ }
 {
     let count = word_at(s, at) as usize;
