@@ -19,7 +19,13 @@ added-as a b at end o o1 e x = subst (λ t. Added t at end o o1) e x
 pub added-one : (x at : ℕ) (o : List ℕ) → at < length o → Added (x ∷ []) at (at + 1) o (set o at x)
 added-one x at o h =
     let e : suc at ≡ at + 1 = omega arith in
-    record { ends = refl; holds = set-split o at x h ∙ ap (λ i. take at o ++ x ∷ drop i o) e ∙ sym (append-assoc (take at o) (x ∷ []) (drop (at + 1) o)) }
+    record {
+      ends = refl;
+      holds =
+        set-split o at x h
+        ∙ ap (λ i. take at o ++ x ∷ drop i o) e
+        ∙ sym (append-assoc (take at o) (x ∷ []) (drop (at + 1) o));
+    }
 
 module _ (a : List ℕ) (at end : ℕ) (o o1 : List ℕ) (room : at + length a ≤ length o) (x : Added a at end o o1) where
   -- what stands up to the end of the text
@@ -67,7 +73,13 @@ added-byte a at k x o o1 room y =
 pub added-none : (at : ℕ) (o : List ℕ) → Added [] at at o o
 added-none at o =
     let e : at ≡ at + 0 = omega arith in
-    record { ends = e; holds = sym (take-append-drop at o) ∙ ap (λ l. l ++ drop at o) (sym (append-nil (take at o))) ∙ ap (λ i. take at o ++ [] ++ drop i o) e }
+    record {
+      ends = e;
+      holds =
+        sym (take-append-drop at o)
+        ∙ ap (λ l. l ++ drop at o) (sym (append-nil (take at o)))
+        ∙ ap (λ i. take at o ++ [] ++ drop i o) e;
+    }
 
 -- the bytes of a text, one after another
 module _ (text : List ℕ) (at : ℕ) (o : List ℕ) (room : at + length text ≤ length o) where

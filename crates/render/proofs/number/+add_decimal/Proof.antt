@@ -1,12 +1,10 @@
-use mathlib.Core.Path.{refl}
-use lib.ListN.{length}
-use Prim.Native.Nat.{_+_, _≤_}
-use Rattle.render.proofs.TextLaws.{decimal-some, one-digit, tenth, last-room, last-digit}
+-- `render::number::add_decimal` meets its contract: by recursion into the tenth, the number itself the measure (`TextLaws`). Assumes nothing.
+use Prim.Native.Nat.{ℕ, _<_}
 use native.Mathlib.Omega.{arith}
 use borrow.Author.Needs.{needs}
-use Prim.Native.Nat.{ℕ, _<_}
 use borrow.Fn.Kinds.{In}
 use borrow.Fn.PlainCycle.{Measures, is, falls, and}
+use Rattle.render.proofs.TextLaws.{decimal-some, one-digit, tenth, last-room, last-digit}
 use Rattle.render.proofs.number.add_decimal.Reads as add-decimal
 use Rattle.render.proofs.number.add_decimal.Kinds as add-decimal-kinds
 use Rattle.render.proofs.number.+add_decimal.Lts-add_decimal as add-decimal-lts
@@ -36,31 +34,49 @@ add-decimal-slice-write-out : (t : ℕ) → add-decimal-lts.Need-slice-write-out
 add-decimal-slice-write-out t c = omega (arith, decimal-some (c .before .before .before .args .n))
 
 add-decimal-add-result : (t : ℕ) → add-decimal-lts.Need-add-result (claims t) (add-decimal-at t) add-decimal.Post
-add-decimal-add-result t c = let h = decimal-some (c .before .before .before .args .n) in search needs
+add-decimal-add-result t c = let some = decimal-some (c .before .before .before .args .n) in search needs
 
 add-decimal-same-length : (t : ℕ) → add-decimal-lts.Need-same-length (claims t) (add-decimal-at t) add-decimal.Post
 add-decimal-same-length t c = search needs
 
 add-decimal-returns : (t : ℕ) → add-decimal-lts.Need-returns (claims t) (add-decimal-at t) add-decimal.Post
-add-decimal-returns t c = one-digit (c .before .before .before .args .n) (c .before .before .before .args .at) (c .digit-of .result) (c .before .before .before .args .out .now) (c .before .if1 .taken) (c .before .before .before .pre .1) (c .digit-of .ensures)
+add-decimal-returns t c =
+    let start = c .before .before .before in
+    one-digit (start .args .n) (start .args .at) (c .digit-of .result) (start .args .out .now) (c .before .if1 .taken) (start .pre .1)
+    (c .digit-of .ensures)
 
 add-decimal-add-decimal-requires : (t : ℕ) → add-decimal-lts.Need-add-decimal-requires (claims t) (add-decimal-at t) add-decimal.Post
-add-decimal-add-decimal-requires t c κs = tenth (c .before .before .before .args .n) (c .before .before .before .args .at) (c .before .before .before .args .out .now) (c .before .if1 .left) (c .before .before .before .pre .1) t (c .before .before .before .pre .0)
+add-decimal-add-decimal-requires t c κs =
+    let start = c .before .before .before in
+    tenth (start .args .n) (start .args .at) (start .args .out .now) (c .before .if1 .left) (start .pre .1) t (start .pre .0)
 
 add-decimal-digit-of-requires-2 : (t : ℕ) → add-decimal-lts.Need-digit-of-requires-2 (claims t) (add-decimal-at t) add-decimal.Post
 add-decimal-digit-of-requires-2 t c κs = search needs
 
 add-decimal-slice-write-out-2 : (t : ℕ) → add-decimal-lts.Need-slice-write-out-2 (claims t) (add-decimal-at t) add-decimal.Post
-add-decimal-slice-write-out-2 t c = last-room (c .before .before .before .before .before .before .before .args .n) (c .before .before .before .before .before .before .before .args .at) (c .before .before .before .before .before .before .before .args .out .now) (c .before .before .before .before .before .if1 .left) (c .before .before .before .before .before .before .before .pre .1) (c .before .before .before .add-decimal .result) (c .before .before .before .add-decimal .last .1 .1 .0) (c .before .before .before .add-decimal .kept .1 .1 .0) (c .before .before .before .add-decimal .ensures)
+add-decimal-slice-write-out-2 t c =
+    let rest = c .before .before .before in
+    let start = rest .before .before .before .before in
+    last-room (start .args .n) (start .args .at) (start .args .out .now) (rest .before .before .if1 .left) (start .pre .1)
+    (rest .add-decimal .result) (rest .add-decimal .last .1 .1 .0) (rest .add-decimal .kept .1 .1 .0) (rest .add-decimal .ensures)
 
 add-decimal-add-result-2 : (t : ℕ) → add-decimal-lts.Need-add-result-2 (claims t) (add-decimal-at t) add-decimal.Post
-add-decimal-add-result-2 t c = let h = last-room (c .before .before .before .before .before .before .before .args .n) (c .before .before .before .before .before .before .before .args .at) (c .before .before .before .before .before .before .before .args .out .now) (c .before .before .before .before .before .if1 .left) (c .before .before .before .before .before .before .before .pre .1) (c .before .before .before .add-decimal .result) (c .before .before .before .add-decimal .last .1 .1 .0) (c .before .before .before .add-decimal .kept .1 .1 .0) (c .before .before .before .add-decimal .ensures) in search needs
+add-decimal-add-result-2 t c =
+    let rest = c .before .before .before in
+    let start = rest .before .before .before .before in
+    let room = last-room (start .args .n) (start .args .at) (start .args .out .now) (rest .before .before .if1 .left) (start .pre .1)
+      (rest .add-decimal .result) (rest .add-decimal .last .1 .1 .0) (rest .add-decimal .kept .1 .1 .0) (rest .add-decimal .ensures) in
+    search needs
 
 add-decimal-same-length-2 : (t : ℕ) → add-decimal-lts.Need-same-length-2 (claims t) (add-decimal-at t) add-decimal.Post
 add-decimal-same-length-2 t c = search needs
 
 add-decimal-returns-2 : (t : ℕ) → add-decimal-lts.Need-returns-2 (claims t) (add-decimal-at t) add-decimal.Post
-add-decimal-returns-2 t c = last-digit (c .before .before .before .before .before .before .before .args .n) (c .before .before .before .before .before .before .before .args .at) (c .before .before .before .before .before .before .before .args .out .now) (c .before .before .before .before .before .if1 .left) (c .before .before .before .before .before .before .before .pre .1) (c .before .before .before .add-decimal .result) (c .digit-of2 .result) (c .before .before .before .add-decimal .last .1 .1 .0) (c .digit-of2 .ensures) (c .before .before .before .add-decimal .ensures)
+add-decimal-returns-2 t c =
+    let rest = c .before .before .before in
+    let start = rest .before .before .before .before in
+    last-digit (start .args .n) (start .args .at) (start .args .out .now) (rest .before .before .if1 .left) (start .pre .1)
+    (rest .add-decimal .result) (c .digit-of2 .result) (rest .add-decimal .last .1 .1 .0) (c .digit-of2 .ensures) (rest .add-decimal .ensures)
 
 pub +add-decimal-spec : {M : Type 1} → statement M
 +add-decimal-spec = close μ-add-decimal λ t. add-decimal-lts.spec (claims t)

@@ -1,33 +1,43 @@
+-- `render::number::add_number` meets its contract: the digits, and a byte after them (`TextLaws`). Assumes nothing.
+use borrow.Author.Needs.{needs}
 use native.Mathlib.Omega.{arith}
 use Rattle.render.specs.Text.{decimal}
 use Rattle.render.proofs.AddedLaws.{added-byte}
 use Rattle.render.proofs.TextLaws.{digits-room, end-room}
-use borrow.Author.Needs.{needs}
 use Rattle.render.proofs.number.add_number.Statement.{statement}
 use Rattle.render.proofs.number.add_number.Tie as tie
-use Rattle.render.proofs.number.add_number.Reads as reads
-use Rattle.render.proofs.number.add_number.Lts as lts
-use Rattle.render.proofs.number.add_decimal.Reads as add-decimal-reads
 
--- src/number.rt:35:9
 add-decimal-requires : tie.Need-add-decimal-requires
-add-decimal-requires c κs = let h = digits-room (c .before .before .args .n) (c .before .before .args .end) (c .before .before .args .at) (c .before .before .args .out .now) (c .before .before .pre) in omega arith
+add-decimal-requires c κs =
+    let start = c .before .before in
+    let room = digits-room (start .args .n) (start .args .end) (start .args .at) (start .args .out .now) (start .pre) in
+    omega arith
 
--- src/number.rt:36:5
 slice-write-out : tie.Need-slice-write-out
-slice-write-out c = end-room (c .before .before .before .before .before .args .n) (c .before .before .before .before .before .args .end) (c .before .before .before .before .before .args .at) (c .before .before .before .before .before .args .out .now) (c .before .before .before .before .before .pre) (c .before .before .add-decimal .result) (c .before .before .add-decimal .last .1 .1 .0) (c .before .before .add-decimal .kept .1 .1 .0) (c .before .before .add-decimal .ensures)
+slice-write-out c =
+    let digits = c .before .before in
+    let start = digits .before .before .before in
+    end-room (start .args .n) (start .args .end) (start .args .at) (start .args .out .now) (start .pre)
+    (digits .add-decimal .result) (digits .add-decimal .last .1 .1 .0) (digits .add-decimal .kept .1 .1 .0) (digits .add-decimal .ensures)
 
--- src/number.rt:37:5
 add-result : tie.Need-add-result
-add-result c = let h = end-room (c .before .before .before .before .before .args .n) (c .before .before .before .before .before .args .end) (c .before .before .before .before .before .args .at) (c .before .before .before .before .before .args .out .now) (c .before .before .before .before .before .pre) (c .before .before .add-decimal .result) (c .before .before .add-decimal .last .1 .1 .0) (c .before .before .add-decimal .kept .1 .1 .0) (c .before .before .add-decimal .ensures) in search needs
+add-result c =
+    let digits = c .before .before in
+    let start = digits .before .before .before in
+    let room = end-room (start .args .n) (start .args .end) (start .args .at) (start .args .out .now) (start .pre)
+      (digits .add-decimal .result) (digits .add-decimal .last .1 .1 .0) (digits .add-decimal .kept .1 .1 .0) (digits .add-decimal .ensures) in
+    search needs
 
--- src/number.rt:31:1
 same-length : tie.Need-same-length
 same-length c = search needs
 
--- src/number.rt:31:1
 returns : tie.Need-returns
-returns c = added-byte (decimal (c .before .before .before .before .before .args .n)) (c .before .before .before .before .before .args .at) (c .before .before .add-decimal .result) (c .before .before .before .before .before .args .end) (c .before .before .before .before .before .args .out .now) (c .before .before .add-decimal .last .1 .1 .0) (digits-room (c .before .before .before .before .before .args .n) (c .before .before .before .before .before .args .end) (c .before .before .before .before .before .args .at) (c .before .before .before .before .before .args .out .now) (c .before .before .before .before .before .pre)) (c .before .before .add-decimal .ensures)
+returns c =
+    let digits = c .before .before in
+    let start = digits .before .before .before in
+    let room = digits-room (start .args .n) (start .args .end) (start .args .at) (start .args .out .now) (start .pre) in
+    added-byte (decimal (start .args .n)) (start .args .at) (digits .add-decimal .result) (start .args .end) (start .args .out .now)
+    (digits .add-decimal .last .1 .1 .0) room (digits .add-decimal .ensures)
 
 pub add-number-spec : {M : Type 1} → statement M
 add-number-spec =

@@ -1,65 +1,72 @@
-use Rattle.render.proofs.AddedLaws.{added-as}
-use Prim.Native.Nat.{ℕ}
-use mathlib.Core.Path.{ap}
-use Rattle.render.proofs.TextLaws.{lines-start, lines-next}
-use Rattle.render.proofs.AddedLaws.{Filled, filled-room}
-use Rattle.render.specs.Text.{linesText}
-use borrow.Author.Needs.{needs}
-use lib.ListN.{length}
-use mathlib.Core.Path.{_≡_, _∙_, refl}
-use native.Mathlib.Omega.{arith}
+-- `render::text::add_lines` meets its contract. The loop keeps: the first l lines are written, in at most 30 bytes each (`TextLaws`); the
+-- measure is how many are left. Assumes nothing.
+use mathlib.Core.Path.{_≡_, ap, _∙_}
 use Prim.Native.Nat.{_+_, _-_, _*_, _≤_}
+use native.Mathlib.Omega.{arith}
+use lib.ListN.{length}
+use borrow.Author.Needs.{needs}
+use Rattle.render.specs.Text.{linesText}
+use Rattle.render.proofs.AddedLaws.{added-as, Filled, filled-room}
+use Rattle.render.proofs.TextLaws.{lines-start, lines-next}
 use Rattle.render.proofs.text.add_lines.Statement.{statement}
 use Rattle.render.proofs.text.add_lines.Tie as tie
-use Rattle.render.proofs.text.add_lines.Reads as reads
-use Rattle.render.proofs.text.add_lines.Lts as lts
-use Rattle.render.proofs.text.add_line.Reads as add-line-reads
 
 abbrev Inv-loop : tie.InvT-loop
-Inv-loop words n at out₀ end₀ l₀ out end l = (n ≤ 1024) × (8 * n ≤ length words) × (at + 30 * n ≤ length out₀) × (l ≤ n) × (length out ≡ length out₀) × Filled (30 * l) (linesText words l) at end out₀ out
+Inv-loop words n at out₀ end₀ l₀ out end l =
+    (n ≤ 1024) × (8 * n ≤ length words) × (at + 30 * n ≤ length out₀) × (l ≤ n) × (length out ≡ length out₀)
+    × Filled (30 * l) (linesText words l) at end out₀ out
 
 abbrev μ-loop : tie.MeasureT-loop
 μ-loop words n at out₀ end₀ l₀ out end l = n - l
 
--- src/text.rt:43:5
 loop-holds : tie.Need-loop-holds Inv-loop μ-loop
-loop-holds c = (search needs, search needs, search needs, search needs, search needs, lines-start (c .before .before .args .words .now) (c .before .before .args .at) (c .before .before .args .out .now))
+loop-holds c =
+    let args = c .before .before .args in
+    (search needs, search needs, search needs, search needs, search needs, lines-start (args .words .now) (args .at) (args .out .now))
 
--- src/text.rt:44:33
 mul-add-line : tie.Need-mul-add-line Inv-loop μ-loop
 mul-add-line c = search needs
 
--- src/text.rt:44:27
 mul-add-line-2 : tie.Need-mul-add-line-2 Inv-loop μ-loop
 mul-add-line-2 c = search needs
 
--- src/text.rt:44:27
 shared-slice-read-add-line : tie.Need-shared-slice-read-add-line Inv-loop μ-loop
 shared-slice-read-add-line c = search needs
 
--- src/text.rt:44:9
 add-line-requires : tie.Need-add-line-requires Inv-loop μ-loop
 add-line-requires c κs = (search needs, filled-room 30 (omega arith) (c .before .before .before .loop .inv .5))
 
--- src/text.rt:45:9
 add-l : tie.Need-add-l Inv-loop μ-loop
 add-l c = search needs
 
--- src/text.rt:43:5
 loop-less : tie.Need-loop-less Inv-loop μ-loop
 loop-less c = search needs
 
--- src/text.rt:43:5
 loop-again : tie.Need-loop-again Inv-loop μ-loop
-loop-again c = let inv = c .before .before .before .before .before .before .loop .inv in (search needs, search needs, search needs, search needs, c .before .before .add-line .kept .1 .1 .1 .0 ∙ inv .4, lines-next (c .before .before .before .before .before .before .before .before .before .args .words .now) (c .before .before .before .before .before .before .before .before .before .args .at) (c .before .before .before .before .before .before .before .before .before .args .out .now) (c .before .before .before .before .before .before .loop .l) (c .before .before .before .before .before .before .loop .end) (c .before .before .add-line .result) (c .before .before .before .before .before .before .loop .out) _ (omega arith) (omega arith) (inv .5) (c .before .before .add-line .ensures))
+loop-again c =
+    let line = c .before .before in
+    let loop = line .before .before .before .before .loop in
+    let args = line .before .before .before .before .before .before .before .args in
+    (
+      search needs,
+      search needs,
+      search needs,
+      search needs,
+      line .add-line .kept .1 .1 .1 .0 ∙ loop .inv .4,
+      lines-next (args .words .now) (args .at) (args .out .now) (loop .l) (loop .end) (line .add-line .result) (loop .out)
+      (line .add-line .last .1 .1 .1 .0) (omega arith) (omega arith) (loop .inv .5) (line .add-line .ensures),
+    )
 
--- src/text.rt:37:1
 same-length : tie.Need-same-length Inv-loop μ-loop
 same-length c = search needs
 
--- src/text.rt:37:1
 returns : tie.Need-returns Inv-loop μ-loop
-returns c = let inv = c .before .loop .inv in let e : c .before .loop .l ≡ c .before .before .before .before .args .n = omega arith in added-as (linesText (c .before .before .before .before .args .words .now) (c .before .loop .l)) (linesText (c .before .before .before .before .args .words .now) (c .before .before .before .before .args .n)) (c .before .before .before .before .args .at) (c .before .loop .end) (c .before .before .before .before .args .out .now) (c .before .loop .out) (ap (λ l. linesText (c .before .before .before .before .args .words .now) l) e) (inv .5 .added)
+returns c =
+    let args = c .before .before .before .before .args in
+    let loop = c .before .loop in
+    let all : loop .l ≡ args .n = omega arith in
+    added-as (linesText (args .words .now) (loop .l)) (linesText (args .words .now) (args .n)) (args .at) (loop .end) (args .out .now) (loop .out)
+    (ap (λ l. linesText (args .words .now) l) all) (loop .inv .5 .added)
 
 pub add-lines-spec : {M : Type 1} → statement M
 add-lines-spec =
