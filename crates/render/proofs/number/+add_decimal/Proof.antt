@@ -42,7 +42,7 @@ add-decimal-same-length t c = search needs
 add-decimal-returns : (t : ℕ) → add-decimal-lts.Need-returns (claims t) (add-decimal-at t) add-decimal.Post
 add-decimal-returns t c =
     let start = c .before .before .before in
-    one-digit (start .args .n) (start .args .at) (c .digit-of .result) (start .args .out .now) (c .before .if1 .taken) (start .pre .1)
+    one-digit (start .args .n) (start .args .at) (c .digit-of .result) (start .args .out .now) (omega arith) (start .pre .1)
     (c .digit-of .ensures)
 
 add-decimal-add-decimal-requires : (t : ℕ) → add-decimal-lts.Need-add-decimal-requires (claims t) (add-decimal-at t) add-decimal.Post
