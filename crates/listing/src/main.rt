@@ -1,8 +1,7 @@
-// Lists the woven script of the rule and the bare script on standard input (docs: 32-bit words, high byte first: node count, nodes, line
-// count, bare lines). What it prints is `render::listing::list`'s answer.
+// Lists the woven script of the rule and the bare script on standard input. What it prints is the answer of `render::listing::list`.
 use libc::STDOUT_FILENO;
 
-// An input has at most 4 * (1 + 32 + 1 + 1,024) bytes; later bytes are ignored.
+// The largest input has 1 + 32 + 1 + 1,024 words; later bytes are ignored.
 fn main() {
     let mut bytes = [0u8; 4232];
     let n = io::read_full(0, &mut bytes);

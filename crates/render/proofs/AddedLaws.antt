@@ -1,9 +1,10 @@
 -- The laws of `specs/Written.antt`.
---     added-one, added-then, added-as    a store; one text after another; an equal text
---     added-byte, added-none             a store after a text; nothing
---     bytes-start, bytes-next, bytes-end the bytes of a text, one after another
---     added-length                       the output's length stays
---     Filled, filled-as, filled-then, filled-room   the same with a limit on the text's length, and the space that is left
+--     added-as, added-none, added-one           an equal text; nothing; a store
+--     added-then, added-byte                    one text after another; a store after a text
+--     added-length                              the output's length stays
+--     bytes-start, bytes-next, bytes-end        the bytes of a text, one after another
+--     Filled, filled-as                         a text of at most so many bytes
+--     filled-then, filled-added, filled-room    one after another, and the space that is left
 -- Assumes nothing.
 use mathlib.Core.Path.{_≡_, refl, sym, ap, subst, _∙_}
 use mathlib.Core.List.{List, [], _∷_, _++_, append-assoc, append-nil}
@@ -22,9 +23,9 @@ added-one x at o h =
     record {
       ends = refl;
       holds =
-        set-split o at x h
-        ∙ ap (λ i. take at o ++ x ∷ drop i o) e
-        ∙ sym (append-assoc (take at o) (x ∷ []) (drop (at + 1) o));
+          set-split o at x h
+          ∙ ap (λ i. take at o ++ x ∷ drop i o) e
+          ∙ sym (append-assoc (take at o) (x ∷ []) (drop (at + 1) o));
     }
 
 module _ (a : List ℕ) (at end : ℕ) (o o1 : List ℕ) (room : at + length a ≤ length o) (x : Added a at end o o1) where
@@ -56,10 +57,10 @@ module _ (a : List ℕ) (at end : ℕ) (o o1 : List ℕ) (room : at + length a �
       record {
         ends = s;
         holds =
-          y .holds
-          ∙ ap (λ t. t ++ b ++ drop (end + length b) o1) head
-          ∙ ap (λ t. take at o ++ a ++ b ++ t) (rest (length b) ∙ ap (λ n. drop n o) p)
-          ∙ ap (λ t. t ++ drop (at + length (a ++ b)) o) (append-assoc (take at o) a b);
+            y .holds
+            ∙ ap (λ t. t ++ b ++ drop (end + length b) o1) head
+            ∙ ap (λ t. take at o ++ a ++ b ++ t) (rest (length b) ∙ ap (λ n. drop n o) p)
+            ∙ ap (λ t. t ++ drop (at + length (a ++ b)) o) (append-assoc (take at o) a b);
       }
 
 -- a byte after others
@@ -76,9 +77,9 @@ added-none at o =
     record {
       ends = e;
       holds =
-        sym (take-append-drop at o)
-        ∙ ap (λ l. l ++ drop at o) (sym (append-nil (take at o)))
-        ∙ ap (λ i. take at o ++ [] ++ drop i o) e;
+          sym (take-append-drop at o)
+          ∙ ap (λ l. l ++ drop at o) (sym (append-nil (take at o)))
+          ∙ ap (λ i. take at o ++ [] ++ drop i o) e;
     }
 
 -- the bytes of a text, one after another
@@ -94,7 +95,7 @@ module _ (text : List ℕ) (at : ℕ) (o : List ℕ) (room : at + length text �
       let e : suc i ≡ i + 1 = omega arith in
       let p : at + i + 1 ≡ at + (i + 1) = omega arith in
       let y = added-then (take i text) at (at + i) o o1 (omega arith) x (getD text i 0 ∷ []) (at + i + 1) (set o1 (at + i) (getD text i 0))
-        (added-one (getD text i 0) (at + i) o1 (omega arith)) in
+      (added-one (getD text i 0) (at + i) o1 (omega arith)) in
       subst (λ n. Added (take (i + 1) text) at n o (set o1 (at + i) (getD text i 0))) p
       (added-as (take i text ++ (getD text i 0 ∷ [])) (take (i + 1) text) at (at + i + 1) o (set o1 (at + i) (getD text i 0))
       (sym (take-suc text i 0 h) ∙ ap (λ n. take n text) e) y)

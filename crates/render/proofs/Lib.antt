@@ -1,4 +1,8 @@
+-- Writing at a place of a lent output.
 pub mod AddedLaws
+-- Decimal numbers, lines, and how long they are.
 pub mod TextLaws
+-- Counts and words in the bytes of an input.
 pub mod InputLaws
+-- The weaver's answer as text, and the listing of what was loaded.
 pub mod ListingLaws

@@ -4,7 +4,8 @@
 --     woven-short                       at most 1,024 lines
 --     refused-text, lines-text          a weaver's answer, as text
 --     at-start, text-as                 a text put at 0, and as another
---     front-is, front-length, loaded-few, listing-is    what was loaded is the front of a buffer
+--     front-is, front-length            what was loaded is the front of a buffer
+--     loaded-few, listing-is            and is the rule and the script of the input
 -- Assumes nothing.
 use mathlib.Core.Path.{_≡_, refl, sym, ap, ap₂, _∙_}
 use mathlib.Core.List.{List, _++_}
@@ -56,7 +57,7 @@ module _ (rule bare out : List ℕ) (roomy : 8192 ≤ length out) where
   weaving-roomy = by checked refl
     where
       by : (a : Checked) → checked ≡ a
-        → (checked then question13 form32 rule bare out then passed lines) ≡ (checked then passed lines)
+          → (checked then question13 form32 rule bare out then passed lines) ≡ (checked then passed lines)
       by (passed u) e =
           then-passed checked (question13 form32 rule bare out then passed lines) e
           ∙ then-passed (question13 form32 rule bare out) (passed lines) (space e)
@@ -79,7 +80,7 @@ module _ (rule bare out : List ℕ) (roomy : 8192 ≤ length out) where
     pub woven-short : n ≤ 1024
     woven-short = let f = few (both .0) in let c = count in omega arith
 
-    pub woven-length : length (woven form32 rule bare) ≡ 8 * n
+    woven-length : length (woven form32 rule bare) ≡ 8 * n
     unfolding checkWeaving checkBare
     woven-length =
         let bare-ok = both-passed _ _ tt (both .0) .0 in

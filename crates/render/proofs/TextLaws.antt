@@ -1,9 +1,13 @@
 -- The laws of `specs/Text.antt`.
---     decimal-small, decimal-more    a number's last digit stands after those of its tenth
---     decimal-some, decimal-short    how many digits there are
+--     decimal-small, decimal-more                a number's last digit stands after those of its tenth
+--     decimal-some, decimal-short                how many digits there are
 --     one-digit, tenth, last-room, last-digit    digits written one after another
+--     digits-room, end-room                      a number with what ends it has a place
+--     number-filled, number-room                 a number of few digits is short
+--     line-short                                 a line has at most 30 bytes
+--     lines-start, lines-next                    the lines of a script, one after another
 -- Assumes nothing.
-use mathlib.Core.Path.{_≡_, refl, sym, ap, subst, _∙_}
+use mathlib.Core.Path.{_≡_, sym, ap, subst, _∙_}
 use mathlib.Core.Logic.{inl, inr}
 use mathlib.Core.List.{List, [], _∷_, _++_}
 use Prim.Native.Nat.{ℕ, zero, suc, _+_, _*_, _/_, _%_, _^_, _≤_, _<_}
@@ -24,7 +28,7 @@ digits-same zero b n ha hb = absurd (omega arith)
 digits-same (suc a) zero n ha hb = absurd (omega arith)
 digits-same (suc a) (suc b) n ha hb =
     elim (le-or-lt 10 n) [
-      inl h ↦ rw (le-ltb n 10 h) (ap (λ l. l ++ (digit (n % 10) ∷ [])) (digits-same a b (n / 10) (omega arith) (omega arith)))
+      | inl h ↦ rw (le-ltb n 10 h) (ap (λ l. l ++ (digit (n % 10) ∷ [])) (digits-same a b (n / 10) (omega arith) (omega arith)))
       | inr h ↦ rw (lt-ltb n 10 h)
     ]
 
@@ -43,7 +47,7 @@ length-more n h = ap length (decimal-more n h) ∙ length-append (decimal (n / 1
 pub decimal-some : (n : ℕ) → 0 < length (decimal n)
 decimal-some n =
     elim (le-or-lt 10 n) [
-      inl h ↦ let e = length-more n h in omega arith
+      | inl h ↦ let e = length-more n h in omega arith
       | inr h ↦ let e = ap length (decimal-small n h) in omega arith
     ]
 
@@ -52,11 +56,11 @@ pub decimal-short : (d n : ℕ) → n < 10 ^ suc d → length (decimal n) ≤ su
 decimal-short zero n h = let e = ap length (decimal-small n h) in omega arith
 decimal-short (suc d) n h =
     elim (le-or-lt 10 n) [
-      inl l ↦
-        let p = pow-suc 10 (suc d) in
-        let r = decimal-short d (n / 10) (omega arith) in
-        let e = length-more n l in
-        omega arith
+      | inl l ↦
+          let p = pow-suc 10 (suc d) in
+          let r = decimal-short d (n / 10) (omega arith) in
+          let e = length-more n l in
+          omega arith
       | inr s ↦ let e = ap length (decimal-small n s) in omega arith
     ]
 
@@ -102,7 +106,7 @@ number-filled d n e h x = record { added = x; short = number-short d n e h }
 pub number-room : (d n e at : ℕ) (o : List ℕ) → n < 10 ^ suc d → at + (d + 2) ≤ length o → at + length (number n e) ≤ length o
 number-room d n e at o h room = let s = number-short d n e h in omega arith
 
--- a line has at most 30 bytes
+-- five numbers of at most five digits each
 pub line-short : (l w : ℕ) → l < 1024 → length (lineText l w) ≤ 30
 unfolding lineText fieldsOf
 line-short l w h =
@@ -138,6 +142,6 @@ module _ (words : List ℕ) (at : ℕ) (o : List ℕ) where
       let e : suc l ≡ l + 1 = omega arith in
       let j : 30 * l + 30 ≡ 30 * (l + 1) = omega arith in
       let f : Filled (30 * l + 30) (linesText words (suc l)) at end2 o o2 =
-        filled-then (omega arith) x (record { added = y; short = line-short l (getD words (8 * l) 0) h }) in
+      filled-then (omega arith) x (record { added = y; short = line-short l (getD words (8 * l) 0) h }) in
       subst (λ n. Filled n (linesText words (l + 1)) at end2 o o2) j
       (subst (λ n. Filled (30 * l + 30) (linesText words n) at end2 o o2) e f)

@@ -12,8 +12,8 @@ use Rattle.spec.specs.Check.{lineLength}
 abbrev pub digit : ℕ → ℕ
 digit n = 48 + n
 
--- A number in decimal: its last digit stands after those of its tenth. It has fewer digits than `most`, if that is larger than n;
--- `proofs/TextLaws.antt` has the equation that a reader expects, `decimal-is`.
+-- A number in decimal: a number below ten is its digit; otherwise the last digit stands after the digits of the tenth. At most `most` digits
+-- are written, and n + 1 are enough: `proofs/TextLaws.antt` has the equations that a reader expects, `decimal-small` and `decimal-more`.
 unfoldable pub digitsFor : (most n : ℕ) → List ℕ
 digitsFor zero n = []
 digitsFor (suc most) n = cond (ltb n 10) (digit n ∷ []) (digitsFor most (n / 10) ++ (digit (n % 10) ∷ []))

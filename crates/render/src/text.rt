@@ -1,6 +1,5 @@
 // The text of a listing, written into a lent output.
 use crate::number::add_number;
-ghost use mathlib.Core.Path.{_≡_};
 ghost use mathlib.Core.List.{List};
 ghost use Prim.Native.Nat.{ℕ, _+_, _*_, _≤_, _<_};
 ghost use lib.ListN.{length};
