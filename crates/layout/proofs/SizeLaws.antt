@@ -1,9 +1,9 @@
 -- How many lines deciding a node takes, from a table of the sizes for lower nodes, and how many a block has.
---     size-at                         a node's size, from those kept for lower nodes
---     sized-next                      so the table grows by a node
---     decide-few                      deciding a node takes no more lines than a block has: it is written in one
---     lines-next, lines-all           a block's lines, counted node by node
---     block-few, node-few             a block of an accepted rule has at most 257 lines, and so deciding a node takes no more
+--     SizedTo, size-at, sized-next       a table of sizes as it is filled: the next node's size, from those kept for lower nodes
+--     decide-few                         deciding a node takes no more lines than a block has: it is part of one
+--     linesTo, lines-none, lines-next    a block's lines, counted node by node,
+--     lines-all, lines-few               are those of the document's formula, and at most 8 a node
+--     nodes-few, block-lines-are, block-few, node-few     an accepted rule has at most 32 nodes, so a block and a decision at most 257 lines
 -- Assumes nothing.
 use mathlib.Core.Path.{_≡_, refl, sym, ap, ap₂, _∙_}
 use mathlib.Core.Logic.{_⊎_, inl, inr}
@@ -47,7 +47,8 @@ size-at rule sizes k e s =
     ap (λ x. sizeFrom (λ j. getD sizes j 0) x 0) (sym (node-at rule k))
     ∙ from-lower (tableIn rule) sizes k 0 (nodeAt (tableIn rule) k) s (ordered .lower k) ∙ sym (decideSize-is (tableIn rule) ordered k)
 
-pub sized-next : (t : Table) (sizes : List ℕ) (k v : ℕ) → k < length sizes → v ≡ decideSize t k → SizedTo t sizes k → SizedTo t (set sizes k v) (k + 1)
+pub sized-next : (t : Table) (sizes : List ℕ) (k v : ℕ) → k < length sizes → v ≡ decideSize t k → SizedTo t sizes k
+    → SizedTo t (set sizes k v) (k + 1)
 sized-next t sizes k v h e s j l =
     elim (le-or-lt k j) [
       | inl a ↦ let z : j ≡ k = omega arith in rw z (getD-set-same sizes k v 0 h ∙ e)

@@ -1,13 +1,17 @@
 -- Where bare lines start in a script that the weaver takes (`specs/Layout.antt`), and that woven lines are few.
---     WeavingOut, weaving-out         what a yes to questions 1 to 7 and 12 says
 --     code-at, length-bare            a bare line's instruction, and how many there are
---     line-some, start-grows          a bare line takes at least a line, and later ones start no earlier
+--     step-few, line-some             a bare line becomes at most 1,024 lines if a block has no more, and at least one
+--     start-end, bare-next, start-step     where the line after the last starts, and the line after a bare line
+--     start-grows, start-before       later lines start no earlier
 --     start-inside                    what a bare line becomes ends inside the woven script
---     woven-few, line-inside, start-few, next-few     which has at most 1,024 lines: so a line ends, starts and goes on inside
+--     WeavingOut, weaving-out         what a yes to questions 1 to 7 and 12 says
+--     bare-few, woven-few             so bare and woven script have at most 1,024 lines,
+--     next-few, line-inside, start-few     and in them each bare line's lines end, and start
 --     present-next, present-inside    after a present there is a line, so its block ends before the last woven line
---     target-inside                   a bare line's target is a line
---     Marked, marked-start, marked-next, marked-keep, started     a table of every 16th start, as it is filled
--- Not here: how many lines a block has (`SizeLaws.block-few`). Assumes nothing.
+--     target-inside, word-fit         a bare line's target is a line; its unused fields are zero
+--     Marked, marked-next, marked-keep     a table of every 16th start, as it is filled
+--     block-few, size-few, kept-start, kept-few     a block has at most 257 lines; what a filled table keeps
+-- Not here: how many lines deciding a node takes (`SizeLaws`). Assumes nothing.
 use mathlib.Core.Path.{_≡_, refl, sym, ap, ap₂, _∙_}
 use mathlib.Core.Logic.{inl, inr}
 use mathlib.Core.Bool.{Bool, true, false, cond, not, _||_}
@@ -18,7 +22,7 @@ use native.Mathlib.Omega.{arith}
 use native.Mathlib.Numerals.{add-one}
 use lib.ListN.{length, getD, set, length-map, List·getD-map}
 use lib.Seq.{getD-set-same, getD-set-other}
-use lib.Dec.{ltb, leb}
+use lib.Dec.{ltb}
 use borrow.Author.Tests.{ltb-true, leb-true}
 use Rattle.spec.specs.Questions.{passed}
 use Rattle.spec.specs.Rule.{form32, Table, checkRule}
@@ -27,7 +31,7 @@ use Rattle.spec.specs.Weaver.{blockSize, lineSize, startOf, wovenCount, questio
 use Rattle.spec.proofs.BoolLaws.{and-both, not-either, le-or-lt}
 use Rattle.spec.proofs.QuestionLaws.{both-passed, once-out}
 use Rattle.spec.proofs.CodeLaws.{CodeOut, code-out, allowed-out}
-use Rattle.spec.proofs.WeaverLaws.{start-zero, start-next, start-past}
+use Rattle.spec.proofs.WeaverLaws.{start-next, start-past}
 use Rattle.layout.specs.Layout.{tableIn, interval, Started}
 pub use Rattle.layout.proofs.SizeLaws.{block-few}
 
@@ -44,6 +48,15 @@ code-at bare l = ap (getD (map instructionRead bare) l) (sym no-word) ∙ List·
 pub length-bare : (bare : List ℕ) → length (bareCode bare) ≡ length bare
 unfolding bareCode
 length-bare bare = length-map bare instructionRead
+
+present-goes : (i : Instruction) → isPresent i ≡ true → goesOn i ≡ true
+present-goes halt e = e
+present-goes (write r v) e = refl
+present-goes (branch q l) e = refl
+present-goes (goto l) e = e
+present-goes present e = refl
+present-goes (setWork k b) e = refl
+present-goes (keep k) e = refl
 
 -- ---- starts
 
@@ -62,6 +75,10 @@ module _ (t : Table) where
 
   pub line-some : (i : Instruction) → 0 < lineSize t i
   line-some i = size-some (isPresent i)
+
+  -- the woven script ends where the line after the last would start
+  pub start-end : (bare : List ℕ) → startOf t (bareCode bare) (length bare) ≡ wovenCount t (bareCode bare)
+  start-end bare = ap (startOf t (bareCode bare)) (sym (length-bare bare))
 
   -- the start of the line after a bare line
   pub bare-next : (bare : List ℕ) (l : ℕ) → l < length bare
@@ -133,21 +150,14 @@ module _ (rule bare : List ℕ) (weavable : checkWeaving form32 rule bare ≡ pa
   pub start-few : (l : ℕ) → l < length bare → startOf (tableIn rule) (bareCode bare) l < mostLines
   start-few l h = omega (arith, line-inside l h, line-some (tableIn rule) (instructionRead (getD bare l 0)))
 
-  present-goes : (i : Instruction) → isPresent i ≡ true → goesOn i ≡ true
-  present-goes halt e = e
-  present-goes (write r v) e = refl
-  present-goes (branch q l) e = refl
-  present-goes (goto l) e = e
-  present-goes present e = refl
-  present-goes (setWork k b) e = refl
-  present-goes (keep k) e = refl
-
   pub present-next : (l : ℕ) → l < length bare → isPresent (instructionRead (getD bare l 0)) ≡ true → l + 1 < length bare
   unfolding followersExist
   present-next l h e =
       let i = instructionRead (getD bare l 0) in
-      let (a, b) = and-both (isLine (length bare) (targetOf i)) (not (goesOn i) || ltb (suc l) (length bare)) (weaving-out rule bare weavable .code .follow l h) in
-      let next : suc l < length bare = ltb-true (suc l) (length bare) (not-either (goesOn i) (ltb (suc l) (length bare)) b (present-goes i e)) in
+      let follow = weaving-out rule bare weavable .code .follow l h in
+      let (a, b) = and-both (isLine (length bare) (targetOf i)) (not (goesOn i) || ltb (suc l) (length bare)) follow in
+      let next : suc l < length bare =
+      ltb-true (suc l) (length bare) (not-either (goesOn i) (ltb (suc l) (length bare)) b (present-goes i e)) in
       omega arith
 
   pub present-inside : (l : ℕ) → l < length bare → isPresent (instructionRead (getD bare l 0)) ≡ true
@@ -162,7 +172,8 @@ module _ (rule bare : List ℕ) (weavable : checkWeaving form32 rule bare ≡ pa
   unfolding followersExist
   target-inside l target h e =
       let i = instructionRead (getD bare l 0) in
-      let (a, b) = and-both (isLine (length bare) (targetOf i)) (not (goesOn i) || ltb (suc l) (length bare)) (weaving-out rule bare weavable .code .follow l h) in
+      let follow = weaving-out rule bare weavable .code .follow l h in
+      let (a, b) = and-both (isLine (length bare) (targetOf i)) (not (goesOn i) || ltb (suc l) (length bare)) follow in
       ltb-true target (length bare) (ap (isLine (length bare)) (sym e) ∙ a)
 
   -- question 6: unused fields are zero

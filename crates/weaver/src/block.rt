@@ -25,7 +25,7 @@ ghost use Rattle.layout.specs.Layout.{tableIn};
 ghost use Rattle.weaver.specs.Laid.{Updatable, Guarding, Blocking};
 
 // The facts M of the nodes in m, W of those in w and C of those in c.
-pub fn noted(m: u64, w: u64, c: u64) -> Facts
+pub(crate) fn noted(m: u64, w: u64, c: u64) -> Facts
     ensures { λ r. ⌜ factsOf r ≡ only keptIsPrior (setOf m) ∪ only workIsNext (setOf w) ∪ only workIsPrior (setOf c) ⌝ }
 {
     Facts {
@@ -120,7 +120,7 @@ fn put_guard(
 }
 
 // The block at `place`, of `size` lines.
-pub fn put_block(
+pub(crate) fn put_block(
     rule: &[u32],
     sizes: &[u16; 64],
     past: u64,

@@ -52,7 +52,7 @@ fn put_simple(word: u32, k: usize, on_true: usize, on_false: usize, x: Facts, ou
 }
 
 // The code for node k, at `place`; `sizes` has how many lines each node's code has.
-pub fn put_decision(
+pub(crate) fn put_decision(
     rule: &[u32],
     sizes: &[u16; 64],
     k: usize,

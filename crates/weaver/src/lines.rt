@@ -81,7 +81,7 @@ fn put_lines(
 }
 
 // The whole script; a block has `size` lines.
-pub fn put_script(rule: &[u32], bare: &[u32], size: usize, out: &mut [u32])
+pub(crate) fn put_script(rule: &[u32], bare: &[u32], size: usize, out: &mut [u32])
     requires { ⌜ (checkWeaving form32 (now rule) (now bare) ≡ passed tt) × (size ≡ blockSize (tableIn (now rule))) × (8 * wovenCount (tableIn (now rule)) (bareCode (now bare)) ≤ length (now out)) ⌝ }
     ensures { λ r. ⌜ now (out .exit) ≡ written (spec.weave (tableIn (now (rule .entry))) (bareCode (now (bare .entry)))) (now (out .entry)) ⌝ }
 {

@@ -130,7 +130,7 @@ fn put_weak_previous(
 }
 
 // Node k's code: none but for past nodes.
-pub fn put_update(
+pub(crate) fn put_update(
     rule: &[u32],
     sizes: &[u16; 64],
     k: usize,

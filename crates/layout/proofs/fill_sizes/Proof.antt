@@ -1,4 +1,5 @@
--- `layout::fill_sizes` meets its contract. The loop keeps: the sizes of the nodes below k stand in the table (`SizeLaws.SizedTo`). Assumes nothing.
+-- `layout::fill_sizes` meets its contract. The loop keeps: the sizes of the nodes below k stand in the table (`SizeLaws.SizedTo`).
+-- Assumes nothing.
 use mathlib.Core.Path.{_≡_, refl, _∙_}
 use Prim.Native.Nat.{_-_, _≤_, _<_}
 use lib.ListN.{length, length-set}
@@ -25,9 +26,11 @@ shared-slice-read-node-size : tie.Need-shared-slice-read-node-size Inv-loop μ-l
 shared-slice-read-node-size c = search needs
 
 node-size-requires : tie.Need-node-size-requires Inv-loop μ-loop
-node-size-requires c κs = let a = c .before .before .before .before .before .before .args in let l = c .before .before .before .loop in
-    let size = size-at (a .rule .now) (l .sizes) (l .k) (c .before .before .before .before .before .before .pre .0) (l .inv .3) in
-    let few = node-few (a .rule .now) (c .before .before .before .before .before .before .pre .0) (l .k) (c .before .before .loop-test .taken) in
+node-size-requires c κs = let start = c .before .before .before .before .before .before in
+    let rule = start .args .rule .now in
+    let l = c .before .before .before .loop in
+    let size = size-at rule (l .sizes) (l .k) (start .pre .0) (l .inv .3) in
+    let few = node-few rule (start .pre .0) (l .k) (c .before .before .loop-test .taken) in
     (omega arith, omega arith)
 
 mul-sizes : tie.Need-mul-sizes Inv-loop μ-loop
@@ -43,13 +46,15 @@ loop-less : tie.Need-loop-less Inv-loop μ-loop
 loop-less c = search needs
 
 loop-again : tie.Need-loop-again Inv-loop μ-loop
-loop-again c = let a = c .before .before .before .before .before .before .before .args in let l = c .before .before .before .before .loop in
-    let inside : l .k < length (l .sizes) = omega arith in (
+loop-again c = let start = c .before .before .before .before .before .before .before in
+    let rule = start .args .rule .now in
+    let l = c .before .before .before .before .loop in
+    let inside : l .k < length (l .sizes) = omega arith in
+    let size = c .node-size .ensures ∙ size-at rule (l .sizes) (l .k) (start .pre .0) (l .inv .3) in (
       search needs,
       search needs,
       length-set (l .sizes) (l .k) (c .node-size .result) ∙ l .inv .2,
-      sized-next (tableIn (a .rule .now)) (l .sizes) (l .k) (c .node-size .result) inside
-          (c .node-size .ensures ∙ size-at (a .rule .now) (l .sizes) (l .k) (c .before .before .before .before .before .before .before .pre .0) (l .inv .3)) (l .inv .3),
+      sized-next (tableIn rule) (l .sizes) (l .k) (c .node-size .result) inside size (l .inv .3),
     )
 
 same-length : tie.Need-same-length Inv-loop μ-loop
