@@ -6,3 +6,5 @@ pub mod TextLaws
 pub mod InputLaws
 -- The weaver's answer as text, and the listing of what was loaded.
 pub mod ListingLaws
+-- The document's listing, by computation.
+pub mod ListingCases

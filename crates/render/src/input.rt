@@ -34,7 +34,7 @@ fn load_words(bytes: &[u8], at: usize, n: usize, out: &mut [u32])
 }
 
 // The words that the count at word `at` counts, at most as many as the output has. Hands back how many.
-pub fn load_counted(bytes: &[u8], at: usize, out: &mut [u32]) -> usize
+pub(crate) fn load_counted(bytes: &[u8], at: usize, out: &mut [u32]) -> usize
     requires { ⌜ (at ≤ 1000000) × (length (now out) ≤ 1000000) ⌝ }
     ensures { λ r. ⌜ Added (counted (length (now (out .entry))) (now (bytes .entry)) at) 0 r (now (out .entry)) (now (out .exit)) ⌝ }
 {

@@ -28,7 +28,7 @@ fn add_decimal(n: usize, at: usize, out: &mut [u8]) -> usize
 }
 
 // The same with a byte that ends it.
-pub fn add_number(n: usize, end: u8, at: usize, out: &mut [u8]) -> usize
+pub(crate) fn add_number(n: usize, end: u8, at: usize, out: &mut [u8]) -> usize
     requires { ⌜ at + length (number n end) ≤ length (now out) ⌝ }
     ensures { λ r. ⌜ Added (number n end) at r (now (out .entry)) (now (out .exit)) ⌝ }
 {

@@ -47,7 +47,7 @@ fn add_lines(words: &[u32], n: usize, at: usize, out: &mut [u8]) -> usize
 }
 
 // The header and n lines.
-pub fn put_lines(words: &[u32], n: usize, out: &mut [u8]) -> usize
+pub(crate) fn put_lines(words: &[u32], n: usize, out: &mut [u8]) -> usize
     requires { ⌜ (n ≤ 1024) × (8 * n ≤ length (now words)) × (30732 ≤ length (now out)) ⌝ }
     ensures { λ r. ⌜ Added (answerText (now (words .entry)) (passed n)) 0 r (now (out .entry)) (now (out .exit)) ⌝ }
 {
@@ -57,7 +57,7 @@ pub fn put_lines(words: &[u32], n: usize, out: &mut [u8]) -> usize
 }
 
 // "refused", number, place.
-pub fn put_refused(question: u32, place: usize, out: &mut [u8]) -> usize
+pub(crate) fn put_refused(question: u32, place: usize, out: &mut [u8]) -> usize
     requires { ⌜ 64 ≤ length (now out) ⌝ }
     ensures { λ r. ⌜ ((words : List ℕ) → Added (answerText words (refused question place)) 0 r (now (out .entry)) (now (out .exit))) ⌝ }
 {
