@@ -101,8 +101,8 @@ fn long(high: u32, low: u32) -> u64 {
     high as u64 * 4294967296 + low as u64
 }
 
-// What a run, a number of steps, or weaving and a run make of a script. From word `at` on: input count, inputs, the budget or the number of steps as two
-// words, the length of the lent history. A lent history has 60,000 everywhere, which no register can hold.
+// What a run, a number of steps, or weaving and a run make of a script. From word `at` on: input count, inputs, the budget or the number of
+// steps as two words, the length of the lent history. A lent history has 60,000 everywhere, which no register can hold.
 pub(crate) fn answer_machine(s: &[u8], kind: u32, rule: &[u32], script: &[u32], at: usize)
     requires { ⌜ at ≤ 100000 ⌝ }
 {
