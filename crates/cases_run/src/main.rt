@@ -1,8 +1,10 @@
 // Runs the entry points on requests from standard input, and prints what they answer.
 // A request is words of 32 bits, high byte first: kind, node count, nodes, word count, words. Kind 1 asks about the rule and a history,
-// a number a word; kind 2 about the rule and a script; kinds 3 and 4 run the script, and go on as `runs` says. A 0 in place of a kind is
-// skipped. A count out of the buffers' range ends a block.
+// a number a word; kind 2 about the rule and a script; kinds 3 and 4 run the script, kind 6 weaves it first, and they go on as `runs` says;
+// kind 5 weaves the script, and goes on with the length of the lent output. A 0 in place of a kind is skipped. A count out of the buffers'
+// range ends a block.
 use crate::runs::answer_machine;
+use crate::weaving::answer_weaving;
 use requests::load_numbers;
 use requests::load_words;
 use requests::print_answer;
@@ -15,6 +17,7 @@ use words::word_at;
 ghost use Prim.Native.Nat.{_<_, _≤_};
 
 mod runs;
+mod weaving;
 
 fn print_verdict(v: Verdict) {
     match v {
@@ -66,6 +69,8 @@ fn answer(s: &[u8], kind: u32, rule: &[u32], nodes: usize, at: usize, count: usi
         load_words(s, at, count, &mut script);
         if kind == 2 {
             answer_script(r, &script[..count]);
+        } else if kind == 5 {
+            answer_weaving(r, &script[..count], word_at(s, at + count) as usize);
         } else {
             answer_machine(s, kind, r, &script[..count], at + count);
         }
@@ -95,6 +100,9 @@ fn request(s: &[u8], at: usize) -> usize
     let next = at + 3 + nodes + count;
     if kind < 3 {
         return next;
+    }
+    if kind == 5 {
+        return next + 1;
     }
     let inputs = word_at(s, next) as usize;
     if 16384 < inputs {

@@ -1,7 +1,9 @@
-// Requests of kinds 3 and 4: a script is run with a budget, or step by step.
+// Requests of kinds 3, 4 and 6: a script is run with a budget, or step by step; a bare script is woven, and what was woven is run.
+use checker::check_script;
 use machine::Machine;
 use machine::answer::Stop;
 use requests::load_numbers;
+use requests::print_answer;
 use requests::print_named;
 use requests::print_number;
 use requests::print_numbers;
@@ -9,6 +11,7 @@ use requests::print_refused;
 use requests::say;
 use rule::node::past_at;
 use sets::has;
+use weaver::Woven;
 use words::word_at;
 ghost use Prim.Native.Nat.{_≤_};
 
@@ -66,13 +69,40 @@ fn answer_steps(rule: &[u32], script: &[u32], inputs: &[u16], count: u64, histor
     print_numbers(b"history", &history[..]);
 }
 
+// The steps are not printed: the machine that the answers are compared with has others.
+fn answer_woven(rule: &[u32], script: &[u32], inputs: &[u16], budget: u64, history: &mut [u16]) {
+    print_answer(check_script(rule, script));
+    let a = machine::run(rule, script, inputs, budget, history);
+    let stop = a.stop;
+    let registers = a.registers;
+    print_stop(stop);
+    print_named(b"line", a.line as u64);
+    print_numbers(b"registers", &registers);
+    print_named(b"presentations", a.presentations as u64);
+    print_named(b"reads", a.reads as u64);
+    print_numbers(b"history", &history[..]);
+}
+
+// Weaves a bare script, asks about what was woven, and runs it.
+fn answer_bare(rule: &[u32], bare: &[u32], inputs: &[u16], budget: u64, history: &mut [u16]) {
+    let mut out = [0u32; 8192];
+    match weaver::weave(rule, bare, &mut out) {
+        Woven::Refused { question, place } => print_refused(question, place),
+        Woven::Lines(lines) => {
+            if lines <= 1024 {
+                answer_woven(rule, &out[..8 * lines], inputs, budget, history);
+            }
+        }
+    }
+}
+
 // Two words, the high one first.
 fn long(high: u32, low: u32) -> u64 {
     high as u64 * 4294967296 + low as u64
 }
 
-// What a run, or a number of steps, makes of a script. From word `at` on: input count, inputs, the budget or the number of steps as two
-// words, the length of the lent history. A lent history has 60,000 everywhere, which no register can hold.
+// What a run, a number of steps, or weaving and a run make of a script. From word `at` on: input count, inputs, the budget or the number of
+// steps as two words, the length of the lent history. A lent history has 60,000 everywhere, which no register can hold.
 pub(crate) fn answer_machine(s: &[u8], kind: u32, rule: &[u32], script: &[u32], at: usize)
     requires { ⌜ at ≤ 100000 ⌝ }
 {
@@ -91,7 +121,9 @@ pub(crate) fn answer_machine(s: &[u8], kind: u32, rule: &[u32], script: &[u32], 
     let mut history = [60000u16; 16384];
     if kind == 3 {
         answer_run(rule, script, &inputs[..count], most, &mut history[..length]);
-    } else {
+    } else if kind == 4 {
         answer_steps(rule, script, &inputs[..count], most, &mut history[..length]);
+    } else {
+        answer_bare(rule, script, &inputs[..count], most, &mut history[..length]);
     }
 }

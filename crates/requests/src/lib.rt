@@ -53,6 +53,22 @@ pub fn print_numbers(name: &[u8], numbers: &[u16]) {
     say(b"\n");
 }
 
+fn long(x: u32) -> u64 {
+    x as u64
+}
+
+// The same of words.
+pub fn print_words(name: &[u8], words: &[u32]) {
+    say(name);
+    let mut i = 0;
+    while i < words.len() {
+        say(b" ");
+        io::print_decimal(STDOUT_FILENO, long(words[i]));
+        i += 1;
+    }
+    say(b"\n");
+}
+
 // The `count` words from `at` on, as far as `out` goes.
 pub fn load_words(s: &[u8], at: usize, count: usize, out: &mut [u32])
     requires { ⌜ (at ≤ 1000000) × (count ≤ 1000000) ⌝ }

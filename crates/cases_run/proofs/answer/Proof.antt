@@ -42,6 +42,24 @@ answer-script-requires c κs = search needs
 array-share-prefix-script-2 : tie.Need-array-share-prefix-script-2
 array-share-prefix-script-2 c = search needs
 
+slice-aggregate-answer-weaving : tie.Need-slice-aggregate-answer-weaving
+slice-aggregate-answer-weaving c = sym (length-take-le _ _ (omega arith))
+
+add-word-at : tie.Need-add-word-at
+add-word-at c = search needs
+
+word-at-requires : tie.Need-word-at-requires
+word-at-requires c κs = search needs
+
+cast-answer-weaving : tie.Need-cast-answer-weaving
+cast-answer-weaving c = search needs
+
+answer-weaving-requires : tie.Need-answer-weaving-requires
+answer-weaving-requires c κs = search needs
+
+array-share-prefix-script-3 : tie.Need-array-share-prefix-script-3
+array-share-prefix-script-3 c = search needs
+
 slice-aggregate-answer-machine : tie.Need-slice-aggregate-answer-machine
 slice-aggregate-answer-machine c = sym (length-take-le _ _ (omega arith))
 
@@ -60,6 +78,9 @@ returns-3 c = search needs
 returns-4 : tie.Need-returns-4
 returns-4 c = search needs
 
+returns-5 : tie.Need-returns-5
+returns-5 c = search needs
+
 pub answer-spec : {M : Type 1} → statement M
 answer-spec =
     tie.close
@@ -76,9 +97,16 @@ answer-spec =
     slice-aggregate-answer-script
     answer-script-requires
     array-share-prefix-script-2
+    slice-aggregate-answer-weaving
+    add-word-at
+    word-at-requires
+    cast-answer-weaving
+    answer-weaving-requires
+    array-share-prefix-script-3
     slice-aggregate-answer-machine
     add-answer-machine
     answer-machine-requires
     returns-2
     returns-3
-    returns-4)
+    returns-4
+    returns-5)

@@ -84,11 +84,29 @@ slice-aggregate-answer-steps-2 c = sym (length-take-le _ _ (omega arith))
 answer-steps-requires : tie.Need-answer-steps-requires
 answer-steps-requires c κs = search needs
 
+array-share-prefix-inputs-3 : tie.Need-array-share-prefix-inputs-3
+array-share-prefix-inputs-3 c = search needs
+
+slice-aggregate-answer-bare : tie.Need-slice-aggregate-answer-bare
+slice-aggregate-answer-bare c = sym (length-take-le _ _ (omega arith))
+
+array-borrow-prefix-history-3 : tie.Need-array-borrow-prefix-history-3
+array-borrow-prefix-history-3 c = search needs
+
+slice-aggregate-answer-bare-2 : tie.Need-slice-aggregate-answer-bare-2
+slice-aggregate-answer-bare-2 c = sym (length-take-le _ _ (omega arith))
+
+answer-bare-requires : tie.Need-answer-bare-requires
+answer-bare-requires c κs = search needs
+
 returns-3 : tie.Need-returns-3
 returns-3 c = search needs
 
 returns-4 : tie.Need-returns-4
 returns-4 c = search needs
+
+returns-5 : tie.Need-returns-5
+returns-5 c = search needs
 
 pub answer-machine-spec : {M : Type 1} → statement M
 answer-machine-spec =
@@ -120,5 +138,11 @@ answer-machine-spec =
     array-borrow-prefix-history-2
     slice-aggregate-answer-steps-2
     answer-steps-requires
+    array-share-prefix-inputs-3
+    slice-aggregate-answer-bare
+    array-borrow-prefix-history-3
+    slice-aggregate-answer-bare-2
+    answer-bare-requires
     returns-3
-    returns-4)
+    returns-4
+    returns-5)
