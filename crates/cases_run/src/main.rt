@@ -1,6 +1,8 @@
 // Runs the entry points on requests from standard input, and prints what they answer.
 // A request is words of 32 bits, high byte first: kind, node count, nodes, word count, words. Kind 1 asks about the rule and a history,
-// a number a word; kind 2 about the rule and a script; a 0 in place of a kind is skipped. A count out of the buffers' range ends a block.
+// a number a word; kind 2 about the rule and a script; kinds 3 and 4 run the script, and go on as `runs` says. A 0 in place of a kind is
+// skipped. A count out of the buffers' range ends a block.
+use crate::runs::answer_machine;
 use requests::load_numbers;
 use requests::load_words;
 use requests::print_answer;
@@ -11,6 +13,8 @@ use requests::say;
 use rule::answer::Verdict;
 use words::word_at;
 ghost use Prim.Native.Nat.{_<_, _≤_};
+
+mod runs;
 
 fn print_verdict(v: Verdict) {
     match v {
@@ -38,20 +42,16 @@ fn answer_history(rule: &[u32], history: &[u16], numbers: usize) {
     print_numbers(b"part", rule::judge(rule, h));
 }
 
-fn answer_script(rule: &[u32], script: &[u32], count: usize) {
-    if script.len() < count {
-        return;
-    }
-    let s = &script[..count];
+fn answer_script(rule: &[u32], script: &[u32]) {
     say(b"bare ");
-    print_answer(script::check_bare(rule, s));
+    print_answer(script::check_bare(rule, script));
     say(b"script ");
-    print_answer(checker::check_script(rule, s));
+    print_answer(checker::check_script(rule, script));
 }
 
 // What the entry points answer on the first nodes of the buffer and the `count` words from `at` on.
 fn answer(s: &[u8], kind: u32, rule: &[u32], nodes: usize, at: usize, count: usize)
-    requires { ⌜ (at ≤ 100000) × (count ≤ 16384) ⌝ }
+    requires { ⌜ (at ≤ 20000) × (count ≤ 16384) ⌝ }
 {
     if rule.len() < nodes {
         return;
@@ -64,7 +64,11 @@ fn answer(s: &[u8], kind: u32, rule: &[u32], nodes: usize, at: usize, count: usi
     } else {
         let mut script = [0u32; 16384];
         load_words(s, at, count, &mut script);
-        answer_script(r, &script, count);
+        if kind == 2 {
+            answer_script(r, &script[..count]);
+        } else {
+            answer_machine(s, kind, r, &script[..count], at + count);
+        }
     }
 }
 
@@ -88,7 +92,15 @@ fn request(s: &[u8], at: usize) -> usize
     let mut rule = [0u32; 64];
     load_words(s, at + 2, nodes, &mut rule);
     answer(s, kind, &rule, nodes, at + 3 + nodes, count);
-    at + 3 + nodes + count
+    let next = at + 3 + nodes + count;
+    if kind < 3 {
+        return next;
+    }
+    let inputs = word_at(s, next) as usize;
+    if 16384 < inputs {
+        return 100000;
+    }
+    next + 4 + inputs
 }
 
 // Every request in the bytes, one after another.

@@ -16,6 +16,14 @@ pub fn print_number(n: usize) {
     io::print_decimal(STDOUT_FILENO, n as u64);
 }
 
+// A name and a number, on one line.
+pub fn print_named(name: &[u8], n: u64) {
+    say(name);
+    say(b" ");
+    io::print_decimal(STDOUT_FILENO, n);
+    say(b"\n");
+}
+
 pub fn print_refused(question: u32, place: usize) {
     say(b"refused");
     print_number(question as usize);

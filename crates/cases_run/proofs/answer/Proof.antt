@@ -30,17 +30,35 @@ slice-aggregate-load-words c = search needs
 load-words-requires : tie.Need-load-words-requires
 load-words-requires c κs = search needs
 
+array-share-prefix-script : tie.Need-array-share-prefix-script
+array-share-prefix-script c = search needs
+
 slice-aggregate-answer-script : tie.Need-slice-aggregate-answer-script
-slice-aggregate-answer-script c = search needs
+slice-aggregate-answer-script c = sym (length-take-le _ _ (omega arith))
 
 answer-script-requires : tie.Need-answer-script-requires
 answer-script-requires c κs = search needs
+
+array-share-prefix-script-2 : tie.Need-array-share-prefix-script-2
+array-share-prefix-script-2 c = search needs
+
+slice-aggregate-answer-machine : tie.Need-slice-aggregate-answer-machine
+slice-aggregate-answer-machine c = sym (length-take-le _ _ (omega arith))
+
+add-answer-machine : tie.Need-add-answer-machine
+add-answer-machine c = search needs
+
+answer-machine-requires : tie.Need-answer-machine-requires
+answer-machine-requires c κs = search needs
 
 returns-2 : tie.Need-returns-2
 returns-2 c = search needs
 
 returns-3 : tie.Need-returns-3
 returns-3 c = search needs
+
+returns-4 : tie.Need-returns-4
+returns-4 c = search needs
 
 pub answer-spec : {M : Type 1} → statement M
 answer-spec =
@@ -54,7 +72,13 @@ answer-spec =
     answer-history-requires
     slice-aggregate-load-words
     load-words-requires
+    array-share-prefix-script
     slice-aggregate-answer-script
     answer-script-requires
+    array-share-prefix-script-2
+    slice-aggregate-answer-machine
+    add-answer-machine
+    answer-machine-requires
     returns-2
-    returns-3)
+    returns-3
+    returns-4)

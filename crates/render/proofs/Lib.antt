@@ -1,0 +1,4 @@
+pub mod AddedLaws
+pub mod TextLaws
+pub mod InputLaws
+pub mod ListingLaws

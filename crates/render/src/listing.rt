@@ -1,0 +1,35 @@
+// The listing of an input.
+use crate::input::load_counted;
+use crate::text::put_lines;
+use crate::text::put_refused;
+use weaver::Woven;
+use weaver::weave;
+ghost use mathlib.Core.Path.{_≡_};
+ghost use mathlib.Core.List.{_++_};
+ghost use lib.ListN.{length, drop};
+ghost use Rattle.render.specs.Listing.{wovenText, listingOf};
+
+// The rule and the bare script woven, as text at the start of the output.
+fn list_woven(rule: &[u32], bare: &[u32], out: &mut [u8; 32768]) -> usize
+    ensures { λ r. ⌜ (r ≡ length (wovenText (now (rule .entry)) (now (bare .entry))))
+        × (now (out .exit) ≡ wovenText (now (rule .entry)) (now (bare .entry)) ++ drop r (now (out .entry))) ⌝ }
+{
+    let mut words = [0u32; 8192];
+    let woven = weave(rule, bare, &mut words);
+    match woven {
+        Woven::Refused { question, place } => put_refused(question, place, out),
+        Woven::Lines(n) => put_lines(&words, n, out),
+    }
+}
+
+// The text for the bytes of an input, at the start of the output; later bytes stay. Hands back its length.
+pub fn list(bytes: &[u8], out: &mut [u8; 32768]) -> usize
+    ensures { λ r. ⌜ (r ≡ length (listingOf (now (bytes .entry))))
+        × (now (out .exit) ≡ listingOf (now (bytes .entry)) ++ drop r (now (out .entry))) ⌝ }
+{
+    let mut rule = [0u32; 32];
+    let nodes = load_counted(bytes, 0, &mut rule);
+    let mut bare = [0u32; 1024];
+    let lines = load_counted(bytes, nodes + 1, &mut bare);
+    list_woven(&rule[..nodes], &bare[..lines], out)
+}

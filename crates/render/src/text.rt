@@ -1,0 +1,68 @@
+// The text of a listing, written into a lent output.
+use crate::number::add_number;
+ghost use mathlib.Core.Path.{_≡_};
+ghost use mathlib.Core.List.{List};
+ghost use Prim.Native.Nat.{ℕ, _+_, _*_, _≤_, _<_};
+ghost use lib.ListN.{length};
+ghost use Rattle.spec.specs.Questions.{passed, refused};
+ghost use Rattle.render.specs.Text.{lineText, linesText, answerText};
+ghost use Rattle.render.specs.Written.{Added};
+
+// These bytes at `at`.
+fn add_bytes(text: &[u8], at: usize, out: &mut [u8]) -> usize
+    requires { ⌜ at + length (now text) ≤ length (now out) ⌝ }
+    ensures { λ r. ⌜ Added (now (text .entry)) at r (now (out .entry)) (now (out .exit)) ⌝ }
+{
+    let mut i: usize = 0;
+    while i < text.len() {
+        out[at + i] = text[i];
+        i += 1;
+    }
+    at + i
+}
+
+// Line l, whose first word this is: line, opcode, r, c, target.
+fn add_line(l: usize, word: u32, at: usize, out: &mut [u8]) -> usize
+    requires { ⌜ (l < 1024) × (at + 30 ≤ length (now out)) ⌝ }
+    ensures { λ r. ⌜ Added (lineText l word) at r (now (out .entry)) (now (out .exit)) ⌝ }
+{
+    let opcode_at = add_number(l, b' ', at, out);
+    let r_at = add_number((word / 268435456 % 16) as usize, b' ', opcode_at, out);
+    let c_at = add_number((word / 16777216 % 16) as usize, b' ', r_at, out);
+    let target_at = add_number((word / 1024 % 16384) as usize, b' ', c_at, out);
+    add_number((word % 1024) as usize, b'\n', target_at, out)
+}
+
+// The first n lines of a script of eight words a line.
+fn add_lines(words: &[u32], n: usize, at: usize, out: &mut [u8]) -> usize
+    requires { ⌜ (n ≤ 1024) × (8 * n ≤ length (now words)) × (at + 30 * n ≤ length (now out)) ⌝ }
+    ensures { λ r. ⌜ Added (linesText (now (words .entry)) n) at r (now (out .entry)) (now (out .exit)) ⌝ }
+{
+    let mut end = at;
+    let mut l: usize = 0;
+    while l < n {
+        end = add_line(l, words[8 * l], end, out);
+        l += 1;
+    }
+    end
+}
+
+// The header and n lines.
+pub fn put_lines(words: &[u32], n: usize, out: &mut [u8]) -> usize
+    requires { ⌜ (n ≤ 1024) × (8 * n ≤ length (now words)) × (30732 ≤ length (now out)) ⌝ }
+    ensures { λ r. ⌜ Added (answerText (now (words .entry)) (passed n)) 0 r (now (out .entry)) (now (out .exit)) ⌝ }
+{
+    let count_at = add_bytes(b"lines ", 0, out);
+    let lines_at = add_number(n, b'\n', count_at, out);
+    add_lines(words, n, lines_at, out)
+}
+
+// "refused", number, place.
+pub fn put_refused(question: u32, place: usize, out: &mut [u8]) -> usize
+    requires { ⌜ 64 ≤ length (now out) ⌝ }
+    ensures { λ r. ⌜ ((words : List ℕ) → Added (answerText words (refused question place)) 0 r (now (out .entry)) (now (out .exit))) ⌝ }
+{
+    let number_at = add_bytes(b"refused ", 0, out);
+    let place_at = add_number(question as usize, b' ', number_at, out);
+    add_number(place, b'\n', place_at, out)
+}

@@ -1,0 +1,234 @@
+-- A past node's code, part after part.
+--     one-line, two-lines                        the words of a line, of two lines
+--     deciding-in, deciding-some                 what deciding asks
+--     length-left, length-end                    sizes
+--     end-few, end-size, end-left                the rest of a since node's code
+--     since-right, since-end, since-size, since-code    a since node's code
+--     weak-left, weak-size, weak-code            a weak previous node's code
+--     no-code                                    other nodes have none
+-- Assumes nothing.
+use mathlib.Core.Path.{_≡_, refl, sym, ap, ap₂, subst, _∙_}
+use mathlib.Core.Bool.{true, false}
+use mathlib.Core.List.{List, [], _∷_, _++_, append-assoc}
+use Prim.Native.Nat.{ℕ, zero, suc, _+_, _-_, _*_, _<_}
+use native.Mathlib.Omega.{arith}
+use lib.ListN.{length, getD, drop, length-drop, length-append}
+use lib.Dec.{ltb}
+use Rattle.spec.specs.Questions.{all}
+use Rattle.spec.specs.Rule.{form32, field, NodeFields, nodeFields, byKind, falseNode, sinceNode, weakPreviousNode, nodeOf, Table, nodeAt, operands}
+use Rattle.spec.specs.Script.{Instruction, wordFor}
+use Rattle.spec.specs.Facts.{valueIs, priorIs, Facts, _∪_, one}
+use Rattle.spec.specs.Weaver.{line, decideSize, decide, setting, update, updateSize}
+use Rattle.spec.proofs.RuleLaws.{InOrder, both-lower, one-lower, rule-out}
+use Rattle.spec.proofs.WeaverLaws.{length-decide, length-setting}
+use Rattle.rule.proofs.NodeLaws.{node-at, kind-4, kind-5}
+use Rattle.layout.specs.Layout.{tableIn}
+use Rattle.weaver.specs.Written.{storedLine, over, written}
+use Rattle.weaver.specs.Parts.{leftLines, sinceEnd}
+use Rattle.weaver.specs.Laid.{Deciding, Updating, Ending, leftIn, rightIn}
+use Rattle.weaver.proofs.OverLaws.{words-append, stored-line}
+use Rattle.weaver.proofs.DecisionLaws.{size-some}
+
+pub one-line : (w : ℕ) (i : Instruction) (F G : Facts) (o : List ℕ) → w ≡ wordFor i → G ≡ F → over (storedLine w G) o ≡ written (line i F ∷ []) o
+one-line w i F G o e f = ap (λ H. over (storedLine w H) o) f ∙ ap (λ ws. over ws o) (stored-line w i F e)
+
+pub two-lines : (w v : ℕ) (i j : Instruction) (F G F′ G′ : Facts) (o : List ℕ) → w ≡ wordFor i → F′ ≡ F → v ≡ wordFor j → G′ ≡ G
+    → over (storedLine w F′ ++ storedLine v G′) o ≡ written (line i F ∷ line j G ∷ []) o
+two-lines w v i j F G F′ G′ o ew eF ev eG =
+    ap (λ ws. over ws o)
+    (ap₂ _++_ (ap (storedLine w) eF ∙ stored-line w i F ew) (ap (storedLine v) eG ∙ stored-line v j G ev)
+    ∙ sym (words-append (line i F ∷ []) (line j G ∷ [])))
+
+-- a node can be decided into any output of the same length, and its code has a line
+pub deciding-in : (rule sizes : List ℕ) (k place onTrue onFalse : ℕ) (out part : List ℕ) → length part ≡ length out
+    → Deciding rule sizes k place onTrue onFalse out → Deciding rule sizes k place onTrue onFalse part
+deciding-in rule sizes k place onTrue onFalse out part e d =
+    let o = d .inOutput in
+    record {
+      sized = d .sized;
+      isNode = d .isNode;
+      trueLine = d .trueLine;
+      falseLine = d .falseLine;
+      inScript = d .inScript;
+      inOutput = omega arith;
+    }
+
+pub deciding-some : (rule sizes : List ℕ) (k place onTrue onFalse : ℕ) (out : List ℕ) → Deciding rule sizes k place onTrue onFalse out
+    → 0 < decideSize (tableIn rule) k
+deciding-some rule sizes k place onTrue onFalse out d = size-some (tableIn rule) (rule-out form32 rule (d .sized .0) .ordered) k
+
+pub length-left : (t : Table) → InOrder t → (k left place set : ℕ) (F : Facts) → length (leftLines t k left place set F) ≡ 2 + decideSize t left
+unfolding leftLines
+length-left t o k left place set F = omega (arith, length-decide t o left (place + 2) set (set + 2) (F ∪ one (priorIs true) k))
+
+pub length-end : (t : Table) → InOrder t → (k left right place : ℕ) (F : Facts) → length (sinceEnd t k left right place F) ≡ 2 + decideSize t left + 3
+unfolding sinceEnd
+length-end t o k left right place F =
+    let set = place + 2 + decideSize t left in
+    length-append (leftLines t k left place set (F ∪ one (valueIs false) right)) (setting k k set F)
+    ∙ ap₂ _+_ (length-left t o k left place set (F ∪ one (valueIs false) right)) (length-setting k k set F)
+
+-- ---- the rest of a since node's code
+
+module _ (rule sizes : List ℕ) (k place : ℕ) (out : List ℕ) (u : Ending rule sizes k place out) where
+  abbrev l : ℕ
+  l = leftIn rule k
+
+  abbrev n : ℕ
+  n = getD sizes l 0
+
+  pub end-few : (k < 32) × (rightIn rule k < 32)
+  unfolding form32
+  end-few = let a = rule-out form32 rule (u .sized .0) .few-nodes in let i = u .isNode in let b = u .lower .1 in (omega arith, omega arith)
+
+  pub end-size : n ≡ decideSize (tableIn rule) l
+  end-size = let b = u .lower .0 in let i = u .isNode in u .sized .1 l (omega arith)
+
+  pub end-left : Deciding rule sizes l (place + 2) (place + 2 + n) (place + 2 + n + 2) (drop 16 out)
+  end-left =
+      let b = u .lower .0 in
+      let i = u .isNode in
+      let a = u .inScript in
+      let o = u .inOutput in
+      let d = length-drop 16 out in
+      record {
+        sized = u .sized;
+        isNode = omega arith;
+        trueLine = omega (arith, end-size);
+        falseLine = omega (arith, end-size);
+        inScript = omega (arith, end-size);
+        inOutput = omega (arith, end-size);
+      }
+
+-- ---- a since node's code
+
+module _ (rule sizes : List ℕ) (k place : ℕ) (out : List ℕ) (u : Updating rule sizes k place out) where
+  abbrev t : Table
+  t = tableIn rule
+
+  abbrev left : ℕ
+  left = leftIn rule k
+
+  abbrev right : ℕ
+  right = rightIn rule k
+
+  order : InOrder t
+  order = rule-out form32 rule (u .sized .0) .ordered
+
+  pub node-few : k < 32
+  unfolding form32
+  node-few = let a = rule-out form32 rule (u .sized .0) .few-nodes in let i = u .isNode in omega arith
+
+  size-at : (j : ℕ) → j < k → getD sizes j 0 ≡ decideSize t j
+  size-at j b = let i = u .isNode in u .sized .1 j (omega arith)
+
+  module _ (e : field 29 3 (getD rule k 0) ≡ 4) where
+    is-since : nodeAt t k ≡ sinceNode left right
+    is-since = node-at rule k ∙ kind-4 (nodeFields (getD rule k 0)) e
+
+    pub since-lower : (left < k) × (right < k)
+    since-lower = both-lower k left right (ap (λ x. all (λ j. ltb j k) (operands x)) (sym is-since) ∙ order .lower k)
+
+    pub left-size : getD sizes left 0 ≡ decideSize t left
+    left-size = size-at left (since-lower .0)
+
+    pub right-size : getD sizes right 0 ≡ decideSize t right
+    right-size = size-at right (since-lower .1)
+
+    pub since-size : getD sizes right 0 + 2 + getD sizes left 0 + 3 ≡ updateSize t (nodeAt t k)
+    unfolding updateSize
+    since-size = ap₂ (λ a b. a + 2 + b + 3) right-size left-size ∙ ap (updateSize t) (sym is-since)
+
+    pub since-right : Deciding rule sizes right place (place + getD sizes right 0 + 2 + getD sizes left 0) (place + getD sizes right 0) out
+    since-right =
+        let b = since-lower .1 in
+        let i = u .isNode in
+        let a = u .inScript in
+        let o = u .inOutput in
+        record {
+          sized = u .sized;
+          isNode = omega arith;
+          trueLine = omega (arith, since-size);
+          falseLine = omega (arith, since-size);
+          inScript = omega (arith, since-size, right-size);
+          inOutput = omega (arith, since-size, right-size);
+        }
+
+    pub since-end : (part : List ℕ) → length part ≡ length out - 8 * getD sizes right 0 → Ending rule sizes k (place + getD sizes right 0) part
+    since-end part p =
+        let i = u .isNode in
+        let a = u .inScript in
+        let o = u .inOutput in
+        record {
+          sized = u .sized;
+          isNode = u .isNode;
+          lower = since-lower;
+          inScript = omega (arith, since-size, left-size);
+          inOutput = omega (arith, since-size, left-size, p);
+        }
+
+    pub since-code : (F : Facts)
+        → decide t right place (place + getD sizes right 0 + 2 + getD sizes left 0) (place + getD sizes right 0) F ++ sinceEnd t k left right (place + getD sizes right 0) F
+        ≡ update t (nodeAt t k) k place F
+    unfolding update sinceEnd leftLines
+    since-code F =
+        ap₂ (λ a b. decide t right place (place + a + 2 + b) (place + a) F ++ sinceEnd t k left right (place + a) F) right-size left-size
+        ∙ sym (append-assoc (decide t right place (place + decideSize t right + 2 + decideSize t left) (place + decideSize t right) F) _ _)
+        ∙ ap (λ x. update t x k place F) (sym is-since)
+
+  module _ (e : field 29 3 (getD rule k 0) ≡ 5) where
+    is-weak : nodeAt t k ≡ weakPreviousNode left
+    is-weak = node-at rule k ∙ kind-5 (nodeFields (getD rule k 0)) e
+
+    pub weak-lower : left < k
+    weak-lower = one-lower k left (ap (λ x. all (λ j. ltb j k) (operands x)) (sym is-weak) ∙ order .lower k)
+
+    pub weak-left-size : getD sizes left 0 ≡ decideSize t left
+    weak-left-size = size-at left weak-lower
+
+    pub weak-size : getD sizes left 0 + 3 ≡ updateSize t (nodeAt t k)
+    unfolding updateSize
+    weak-size = ap (λ a. a + 3) weak-left-size ∙ ap (updateSize t) (sym is-weak)
+
+    pub weak-left : Deciding rule sizes left place (place + getD sizes left 0) (place + getD sizes left 0 + 2) out
+    weak-left =
+        let b = weak-lower in
+        let i = u .isNode in
+        let a = u .inScript in
+        let o = u .inOutput in
+        record {
+          sized = u .sized;
+          isNode = omega arith;
+          trueLine = omega (arith, weak-size);
+          falseLine = omega (arith, weak-size);
+          inScript = omega (arith, weak-size, weak-left-size);
+          inOutput = omega (arith, weak-size, weak-left-size);
+        }
+
+    pub weak-code : (F : Facts)
+        → decide t left place (place + getD sizes left 0) (place + getD sizes left 0 + 2) F ++ setting k left (place + getD sizes left 0) F
+        ≡ update t (nodeAt t k) k place F
+    unfolding update
+    weak-code F =
+        ap (λ a. decide t left place (place + a) (place + a + 2) F ++ setting k left (place + a) F) weak-left-size
+        ∙ ap (λ x. update t x k place F) (sym is-weak)
+
+-- ---- other nodes
+
+kind-none : (t : Table) (f : NodeFields) (k place : ℕ) (F : Facts) (i : ℕ) → (i ≡ 4 → ⊥) → (i ≡ 5 → ⊥)
+    → (0 ≡ updateSize t (getD (byKind f) i falseNode)) × ([] ≡ update t (getD (byKind f) i falseNode) k place F)
+unfolding updateSize update
+kind-none t f k place F zero a b = (refl, refl)
+kind-none t f k place F (suc zero) a b = (refl, refl)
+kind-none t f k place F (suc (suc zero)) a b = (refl, refl)
+kind-none t f k place F (suc (suc (suc zero))) a b = (refl, refl)
+kind-none t f k place F (suc (suc (suc (suc zero)))) a b = absurd (a refl)
+kind-none t f k place F (suc (suc (suc (suc (suc zero))))) a b = absurd (b refl)
+kind-none t f k place F (suc (suc (suc (suc (suc (suc i)))))) a b = (refl, refl)
+
+pub no-code : (rule : List ℕ) (k place : ℕ) (F : Facts) → (field 29 3 (getD rule k 0) ≡ 4 → ⊥) → (field 29 3 (getD rule k 0) ≡ 5 → ⊥)
+    → (0 ≡ updateSize (tableIn rule) (nodeAt (tableIn rule) k)) × ([] ≡ update (tableIn rule) (nodeAt (tableIn rule) k) k place F)
+unfolding nodeOf
+no-code rule k place F a b =
+    subst (λ x. (0 ≡ updateSize (tableIn rule) x) × ([] ≡ update (tableIn rule) x k place F)) (sym (node-at rule k))
+    (kind-none (tableIn rule) (nodeFields (getD rule k 0)) k place F (field 29 3 (getD rule k 0)) a b)

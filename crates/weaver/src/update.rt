@@ -1,0 +1,151 @@
+// A past node's code: its next prior becomes its work bit.
+use crate::decision::put_decision;
+use crate::line::code;
+use crate::line::put_line;
+use crate::line::put_two;
+use crate::line::with_work;
+use checker::facts::Facts;
+use checker::facts::learn_prior;
+use checker::facts::learn_value;
+ghost use mathlib.Core.Path.{_≡_};
+ghost use Prim.Native.Nat.{_+_, _≤_, _<_};
+ghost use lib.ListN.{length, getD, drop};
+ghost use Rattle.spec.specs.Rule.{field, nodeAt};
+ghost use Rattle.spec.specs.Weaver.{setting, update, updateSize};
+ghost use Rattle.sets.specs.Sets.{capacity};
+ghost use Rattle.checker.specs.FactSets.{factsOf};
+ghost use Rattle.weaver.specs.Written.{written};
+ghost use Rattle.layout.specs.Layout.{tableIn};
+ghost use Rattle.weaver.specs.Laid.{leftIn, rightIn, Deciding, Updating, Ending};
+ghost use Rattle.weaver.specs.Parts.{leftLines, sinceEnd};
+
+// Set 1, go past, set 0: the value of node v becomes the work bit of node k.
+fn put_setting(k: usize, v: usize, place: usize, x: Facts, out: &mut [u32])
+    requires { ⌜ (k < capacity) × (v < capacity) × (place + 3 < 1024) × (24 ≤ length (now out)) ⌝ }
+    ensures { λ r. ⌜ now (out .exit) ≡ written (setting k v place (factsOf x)) (now (out .entry)) ⌝ }
+{
+    let y = learn_value(x, v, true, false);
+    let z = with_work(x, k, true);
+    put_two(code(9, 1, k as u32, 0), y, code(7, 0, 0, place + 3), z, out);
+    put_line(
+        code(9, 0, k as u32, 0),
+        learn_value(x, v, false, true),
+        &mut out[16..],
+    );
+}
+
+// Where right is false: a branch on the prior of node k to the code deciding left, which follows, and a go to the clearing line.
+fn put_left(
+    rule: &[u32],
+    sizes: &[u16; 64],
+    k: usize,
+    left: usize,
+    place: usize,
+    set_at: usize,
+    x: Facts,
+    out: &mut [u32],
+)
+    requires { ⌜ (k < capacity) × (16 ≤ length (now out)) × Deciding (now rule) (now sizes) left (place + 2) «set_at» («set_at» + 2) (drop 16 (now out)) ⌝ }
+    ensures { λ r. ⌜ now (out .exit) ≡ written (leftLines (tableIn (now (rule .entry))) k left place «set_at» (factsOf x)) (now (out .entry)) ⌝ }
+{
+    let y = learn_prior(x, k, false, true);
+    put_two(
+        code(10, 0, k as u32, place + 2),
+        x,
+        code(7, 0, 0, set_at + 2),
+        y,
+        out,
+    );
+    let z = learn_prior(x, k, true, false);
+    put_decision(
+        rule,
+        sizes,
+        left,
+        place + 2,
+        set_at,
+        set_at + 2,
+        z,
+        &mut out[16..],
+    );
+}
+
+// A since node's code from there on.
+fn put_since_end(rule: &[u32], sizes: &[u16; 64], k: usize, place: usize, x: Facts, out: &mut [u32])
+    requires { ⌜ Ending (now rule) (now sizes) k place (now out) ⌝ }
+    ensures { λ r. ⌜ now (out .exit) ≡ written (sinceEnd (tableIn (now (rule .entry))) k (leftIn (now (rule .entry)) k) (rightIn (now (rule .entry)) k) place (factsOf x)) (now (out .entry)) ⌝ }
+{
+    let word = rule[k];
+    let left = (word / 64 % 32) as usize;
+    let right = (word / 2 % 32) as usize;
+    let l = sizes[left] as usize;
+    let set_at = place + 2 + l;
+    let y = learn_value(x, right, false, true);
+    put_left(rule, sizes, k, left, place, set_at, y, out);
+    put_setting(k, k, set_at, x, &mut out[8 * (2 + l)..]);
+}
+
+// The code of a since node. Hands back how many lines it has, as do the next two.
+fn put_since(
+    rule: &[u32],
+    sizes: &[u16; 64],
+    k: usize,
+    place: usize,
+    x: Facts,
+    out: &mut [u32],
+) -> usize
+    requires { ⌜ Updating (now rule) (now sizes) k place (now out) × (field 29 3 (getD (now rule) k 0) ≡ 4) ⌝ }
+    ensures { λ r. ⌜ (r ≡ updateSize (tableIn (now (rule .entry))) (nodeAt (tableIn (now (rule .entry))) k))
+        × (now (out .exit) ≡ written (update (tableIn (now (rule .entry))) (nodeAt (tableIn (now (rule .entry))) k) k place (factsOf x)) (now (out .entry))) ⌝ }
+{
+    let word = rule[k];
+    let left = (word / 64 % 32) as usize;
+    let right = (word / 2 % 32) as usize;
+    let r = sizes[right] as usize;
+    let l = sizes[left] as usize;
+    let test_at = place + r;
+    put_decision(rule, sizes, right, place, test_at + 2 + l, test_at, x, out);
+    put_since_end(rule, sizes, k, test_at, x, &mut out[8 * r..]);
+    r + 2 + l + 3
+}
+
+// The code of a weak previous node.
+fn put_weak_previous(
+    rule: &[u32],
+    sizes: &[u16; 64],
+    k: usize,
+    place: usize,
+    x: Facts,
+    out: &mut [u32],
+) -> usize
+    requires { ⌜ Updating (now rule) (now sizes) k place (now out) × (field 29 3 (getD (now rule) k 0) ≡ 5) ⌝ }
+    ensures { λ r. ⌜ (r ≡ updateSize (tableIn (now (rule .entry))) (nodeAt (tableIn (now (rule .entry))) k))
+        × (now (out .exit) ≡ written (update (tableIn (now (rule .entry))) (nodeAt (tableIn (now (rule .entry))) k) k place (factsOf x)) (now (out .entry))) ⌝ }
+{
+    let left = (rule[k] / 64 % 32) as usize;
+    let l = sizes[left] as usize;
+    let set_at = place + l;
+    put_decision(rule, sizes, left, place, set_at, set_at + 2, x, out);
+    put_setting(k, left, set_at, x, &mut out[8 * l..]);
+    l + 3
+}
+
+// Node k's code: none but for past nodes.
+pub(crate) fn put_update(
+    rule: &[u32],
+    sizes: &[u16; 64],
+    k: usize,
+    place: usize,
+    x: Facts,
+    out: &mut [u32],
+) -> usize
+    requires { ⌜ Updating (now rule) (now sizes) k place (now out) ⌝ }
+    ensures { λ r. ⌜ (r ≡ updateSize (tableIn (now (rule .entry))) (nodeAt (tableIn (now (rule .entry))) k))
+        × (now (out .exit) ≡ written (update (tableIn (now (rule .entry))) (nodeAt (tableIn (now (rule .entry))) k) k place (factsOf x)) (now (out .entry))) ⌝ }
+{
+    let kind = rule[k] / 536870912 % 8;
+    match kind {
+        4 => put_since(rule, sizes, k, place, x, out),
+        5 => put_weak_previous(rule, sizes, k, place, x, out),
+        _ => 0,
+    }
+}
