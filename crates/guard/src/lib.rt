@@ -4,6 +4,7 @@
 use crate::notes::note_place;
 use crate::notes::note_report;
 use crate::notes::note_verdict;
+use crate::notes::note_woven;
 use crate::states::put_machine;
 use crate::states::read_machine;
 use crate::states::registers_fit;
@@ -13,6 +14,7 @@ use machine::run;
 use rule::check_rule;
 use rule::verdict;
 use script::check_bare;
+use weaver::weave;
 ghost use mathlib.Core.Path.{_≡_};
 ghost use mathlib.Core.Bool.{cond};
 ghost use mathlib.Core.List.{[], _++_};
@@ -22,7 +24,8 @@ ghost use Rattle.spec.specs.Judging.{judging};
 ghost use Rattle.spec.specs.Script.{checkBare};
 ghost use Rattle.spec.specs.Check.{checkScript};
 ghost use Rattle.spec.specs.Machine.{freshOf, running, reportOf, historyAfter};
-ghost use Rattle.guard.specs.Numbers.{roomFor, tooShort, withWords, resultFor, checkedWords, verdictWords, reportWords};
+ghost use Rattle.spec.specs.Weaver.{weaving, outputAfter};
+ghost use Rattle.guard.specs.Numbers.{roomFor, tooShort, withWords, resultFor, checkedWords, wovenWords, verdictWords, reportWords};
 ghost use Rattle.guard.specs.States.{stateLength, stateWords, isStated, stepResult, stepped};
 
 mod notes;
@@ -62,6 +65,24 @@ pub extern "C" fn guard_script(rule: &[u32], script: &[u32], numbers: &mut [u64]
         return 99;
     }
     note_place(check_script(rule, script), numbers)
+}
+
+// The woven script for a rule: questions 1 to 7, 12 and 13 first. Two words: place, lines. The lines go to `out`, eight words each.
+#[no_mangle]
+pub extern "C" fn guard_weave(
+    rule: &[u32],
+    bare: &[u32],
+    out: &mut [u32],
+    numbers: &mut [u64],
+) -> u32
+    ensures result { λ r. ⌜ r ≡ resultFor 2 (now (numbers .entry)) (weaving form32 (now (rule .entry)) (now (bare .entry)) (now (out .entry))) ⌝ }
+    ensures words { λ r. ⌜ now (numbers .exit) ≡ withWords 2 (wovenWords (weaving form32 (now (rule .entry)) (now (bare .entry)) (now (out .entry)))) (now (numbers .entry)) ⌝ }
+    ensures output { λ r. ⌜ now (out .exit) ≡ cond (roomFor 2 (now (numbers .entry))) (outputAfter form32 (now (rule .entry)) (now (bare .entry)) (now (out .entry))) (now (out .entry)) ⌝ }
+{
+    if numbers.len() < 2 {
+        return 99;
+    }
+    note_woven(weave(rule, bare, out), numbers)
 }
 
 // The verdict on a history: questions 1 to 4, 14 and 15 first. Four words: place; 1 where the rule is false somewhere; the lowest
