@@ -6,7 +6,7 @@ use reference::facts::with_planted_fault;
 use std::env;
 
 const SEED: u64 = 20_261_115;
-const REQUESTS: u64 = 200_000;
+const REQUESTS: u64 = 600_000;
 
 fn number(name: &str, otherwise: u64) -> u64 {
     env::var(name).map_or(otherwise, |text| text.parse().unwrap_or_else(|_| panic!("{name} is a number")))
