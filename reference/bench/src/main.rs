@@ -8,6 +8,7 @@ use compare::requests::{request, Request};
 use reference::judge::{first_priors, next_priors, values_now};
 use reference::random::Rng;
 use reference::rule::check_rule;
+use std::cell::RefCell;
 use std::hint::black_box;
 use std::time::Instant;
 
@@ -61,23 +62,28 @@ fn r4() -> Vec<u32> {
     ]
 }
 
-/// A history at every state of which the rule is true, so that the judge reads all of it.
+/// A history at every state of which the rule is true, so that the judge reads all of it. A state is taken where some next one
+/// keeps the rule as well.
 fn long_history(rule: &[u32], states: usize) -> Vec<u16> {
-    let rule = check_rule(rule).ok().expect("a rule");
-    let mut g = Rng(4);
+    let rule = check_rule(rule).expect("a rule");
+    let g = RefCell::new(Rng(4));
     let constants: Vec<u16> = rule.nodes.iter().flat_map(|d| [d.constant, d.constant.saturating_sub(1)]).chain([0, 1, 2]).collect();
+    // a state at which the rule is true, and the priors after it
+    let found = |g: &mut Rng, prior: &[bool], tries: usize| {
+        (0..tries).find_map(|_| {
+            let state: [u16; 16] = std::array::from_fn(|_| g.pick(&constants));
+            let values = values_now(&rule, prior, &state);
+            values[rule.last()].then(|| (state, next_priors(&rule, &values)))
+        })
+    };
     let mut prior = first_priors(&rule);
     let mut words = vec![];
     for _ in 0..states {
-        let (state, values) = (0..100_000)
-            .map(|_| {
-                let state: [u16; 16] = std::array::from_fn(|_| g.pick(&constants));
-                let values = values_now(&rule, &prior, &state);
-                (state, values)
-            })
-            .find(|(_, values)| values[rule.last()])
+        let (state, next) = (0..1000)
+            .filter_map(|_| found(&mut g.borrow_mut(), &prior, 1000))
+            .find(|(_, next)| found(&mut g.borrow_mut(), next, 1000).is_some())
             .expect("a state at which the rule is true");
-        prior = next_priors(&rule, &values);
+        prior = next;
         words.extend(state);
     }
     words
@@ -197,7 +203,7 @@ fn main() {
         ));
     }
     for (name, rule) in [&rules[0], &rules[3]] {
-        let block = check_rule(rule).ok().expect("a rule").block_lines();
+        let block = check_rule(rule).expect("a rule").block_lines();
         for lines in [16, 128, 1024] {
             if lines < block + 3 {
                 continue;

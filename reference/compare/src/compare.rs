@@ -2,7 +2,9 @@
 use crate::requests::{request, Request};
 use crate::{faced, proved};
 use std::collections::BTreeMap;
+use std::env;
 use std::fmt::Debug;
+use std::sync::OnceLock;
 
 /// What was met: how many calls of each function handed back each number, and how the runs stopped.
 #[derive(Default, Debug)]
@@ -19,26 +21,29 @@ impl Met {
     }
 }
 
-/// Words on either side of a lent slice, which nobody may write.
-const MARGIN: usize = 3;
+/// How many words stand on either side of a lent slice, which nobody may write. Under a checker of memory it is better to have
+/// none, so that the allocation ends where the slice does: GUARD_MARGIN=0.
+fn margin() -> usize {
+    static MARGIN: OnceLock<usize> = OnceLock::new();
+    *MARGIN.get_or_init(|| env::var("GUARD_MARGIN").map_or(3, |text| text.parse().expect("GUARD_MARGIN is a number")))
+}
 
 /// A lent slice for each of the two, with the same numbers in and around it.
 struct Lent<X> {
-    proved: Vec<X>,
-    reference: Vec<X>,
+    proved: Box<[X]>,
+    reference: Box<[X]>,
 }
 
 impl<X: Copy + PartialEq + Debug> Lent<X> {
-    fn new(words: &[X], margin: X) -> Lent<X> {
-        let mut all = vec![margin; MARGIN];
-        all.extend_from_slice(words);
-        all.extend([margin; MARGIN]);
+    fn new(words: &[X], around: X) -> Lent<X> {
+        let side = vec![around; margin()];
+        let all = [&side, words, &side].concat().into_boxed_slice();
         Lent { proved: all.clone(), reference: all }
     }
 
     fn both(&mut self) -> (&mut [X], &mut [X]) {
-        let (a, b) = (self.proved.len() - MARGIN, self.reference.len() - MARGIN);
-        (&mut self.proved[MARGIN..a], &mut self.reference[MARGIN..b])
+        let inner = margin()..self.proved.len() - margin();
+        (&mut self.proved[inner.clone()], &mut self.reference[inner])
     }
 
     fn check(&self, what: &str) -> Result<(), String> {
@@ -46,7 +51,7 @@ impl<X: Copy + PartialEq + Debug> Lent<X> {
             return Ok(());
         }
         let i = self.proved.iter().zip(&self.reference).position(|(a, b)| a != b).unwrap();
-        Err(format!("{what}[{}]: proved {:?}, reference {:?}", i as isize - MARGIN as isize, self.proved[i], self.reference[i]))
+        Err(format!("{what}[{}]: proved {:?}, reference {:?}", i as isize - margin() as isize, self.proved[i], self.reference[i]))
     }
 }
 
