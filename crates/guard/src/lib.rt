@@ -1,0 +1,158 @@
+// The guard for C and Rust to call: every entry point, on numbers and slices. include/guard.h says the same to a reader of C.
+// Each function hands back 0, or the number of the question that refused, or 99 where the lent words are fewer than it needs, and
+// writes its other numbers into the first of the lent words; later words stay. With 99 nothing is written anywhere.
+use crate::notes::note_place;
+use crate::notes::note_report;
+use crate::notes::note_verdict;
+use crate::notes::note_woven;
+use crate::states::put_machine;
+use crate::states::read_machine;
+use crate::states::registers_fit;
+use checker::check_script;
+use machine::Machine;
+use machine::run;
+use rule::check_rule;
+use rule::verdict;
+use script::check_bare;
+use weaver::weave;
+ghost use mathlib.Core.Path.{_≡_};
+ghost use mathlib.Core.Bool.{cond};
+ghost use mathlib.Core.List.{[], _++_};
+ghost use lib.ListN.{drop};
+ghost use Rattle.spec.specs.Rule.{form32, checkRule};
+ghost use Rattle.spec.specs.Judging.{judging};
+ghost use Rattle.spec.specs.Script.{checkBare};
+ghost use Rattle.spec.specs.Check.{checkScript};
+ghost use Rattle.spec.specs.Machine.{freshOf, running, reportOf, historyAfter};
+ghost use Rattle.spec.specs.Weaver.{weaving, outputAfter};
+ghost use Rattle.guard.specs.Numbers.{roomFor, tooShort, withWords, resultFor, checkedWords, wovenWords, verdictWords, reportWords};
+ghost use Rattle.guard.specs.States.{stateLength, stateWords, isStated, stepResult, stepped};
+
+mod notes;
+mod states;
+
+// A rule: questions 1 to 4. One word: place.
+#[no_mangle]
+pub extern "C" fn guard_rule(rule: &[u32], numbers: &mut [u64]) -> u32
+    ensures result { λ r. ⌜ r ≡ resultFor 1 (now (numbers .entry)) (checkRule form32 (now (rule .entry))) ⌝ }
+    ensures words { λ r. ⌜ now (numbers .exit) ≡ withWords 1 (checkedWords (checkRule form32 (now (rule .entry)))) (now (numbers .entry)) ⌝ }
+{
+    if numbers.len() < 1 {
+        return 99;
+    }
+    note_place(check_rule(rule), numbers)
+}
+
+// A bare script for a rule: questions 1 to 7. One word: place.
+#[no_mangle]
+pub extern "C" fn guard_bare(rule: &[u32], script: &[u32], numbers: &mut [u64]) -> u32
+    ensures result { λ r. ⌜ r ≡ resultFor 1 (now (numbers .entry)) (checkBare form32 (now (rule .entry)) (now (script .entry))) ⌝ }
+    ensures words { λ r. ⌜ now (numbers .exit) ≡ withWords 1 (checkedWords (checkBare form32 (now (rule .entry)) (now (script .entry)))) (now (numbers .entry)) ⌝ }
+{
+    if numbers.len() < 1 {
+        return 99;
+    }
+    note_place(check_bare(rule, script), numbers)
+}
+
+// An annotated script for a rule: questions 1 to 11. One word: place.
+#[no_mangle]
+pub extern "C" fn guard_script(rule: &[u32], script: &[u32], numbers: &mut [u64]) -> u32
+    ensures result { λ r. ⌜ r ≡ resultFor 1 (now (numbers .entry)) (checkScript form32 (now (rule .entry)) (now (script .entry))) ⌝ }
+    ensures words { λ r. ⌜ now (numbers .exit) ≡ withWords 1 (checkedWords (checkScript form32 (now (rule .entry)) (now (script .entry)))) (now (numbers .entry)) ⌝ }
+{
+    if numbers.len() < 1 {
+        return 99;
+    }
+    note_place(check_script(rule, script), numbers)
+}
+
+// The woven script for a rule: questions 1 to 7, 12 and 13 first. Two words: place, lines. The lines go to `out`, eight words each.
+#[no_mangle]
+pub extern "C" fn guard_weave(
+    rule: &[u32],
+    bare: &[u32],
+    out: &mut [u32],
+    numbers: &mut [u64],
+) -> u32
+    ensures result { λ r. ⌜ r ≡ resultFor 2 (now (numbers .entry)) (weaving form32 (now (rule .entry)) (now (bare .entry)) (now (out .entry))) ⌝ }
+    ensures words { λ r. ⌜ now (numbers .exit) ≡ withWords 2 (wovenWords (weaving form32 (now (rule .entry)) (now (bare .entry)) (now (out .entry)))) (now (numbers .entry)) ⌝ }
+    ensures output { λ r. ⌜ now (out .exit) ≡ cond (roomFor 2 (now (numbers .entry))) (outputAfter form32 (now (rule .entry)) (now (bare .entry)) (now (out .entry))) (now (out .entry)) ⌝ }
+{
+    if numbers.len() < 2 {
+        return 99;
+    }
+    note_woven(weave(rule, bare, out), numbers)
+}
+
+// The verdict on a history: questions 1 to 4, 14 and 15 first. Four words: place; 1 where the rule is false somewhere; the lowest
+// such index; the number of states where there is none.
+#[no_mangle]
+pub extern "C" fn guard_judge(rule: &[u32], history: &[u16], numbers: &mut [u64]) -> u32
+    ensures result { λ r. ⌜ r ≡ resultFor 4 (now (numbers .entry)) (judging form32 (now (rule .entry)) (now (history .entry))) ⌝ }
+    ensures words { λ r. ⌜ now (numbers .exit) ≡ withWords 4 (verdictWords (judging form32 (now (rule .entry)) (now (history .entry)))) (now (numbers .entry)) ⌝ }
+{
+    if numbers.len() < 4 {
+        return 99;
+    }
+    note_verdict(verdict(rule, history), numbers)
+}
+
+// A run: questions 1 to 11, and 15 of the inputs, then steps from a fresh start. 22 words: place, stop, line, steps, presentations,
+// inputs read, 16 registers.
+#[no_mangle]
+pub extern "C" fn guard_run(
+    rule: &[u32],
+    script: &[u32],
+    inputs: &[u16],
+    budget: u64,
+    history: &mut [u16],
+    numbers: &mut [u64],
+) -> u32
+    ensures result { λ r. ⌜ r ≡ resultFor 22 (now (numbers .entry)) (running form32 (now (rule .entry)) (now (script .entry)) (now (inputs .entry)) budget (now (history .entry))) ⌝ }
+    ensures words { λ r. ⌜ now (numbers .exit) ≡ withWords 22 (reportWords (reportOf (running form32 (now (rule .entry)) (now (script .entry)) (now (inputs .entry)) budget (now (history .entry))))) (now (numbers .entry)) ⌝ }
+    ensures left { λ r. ⌜ now (history .exit) ≡ cond (roomFor 22 (now (numbers .entry))) (historyAfter (running form32 (now (rule .entry)) (now (script .entry)) (now (inputs .entry)) budget (now (history .entry))) (now (history .entry))) (now (history .entry)) ⌝ }
+{
+    if numbers.len() < 22 {
+        return 99;
+    }
+    note_report(run(rule, script, inputs, budget, history), numbers)
+}
+
+// The machine at a fresh start. 21 words: line, presentations, inputs read, kept bits, work bits, 16 registers.
+#[no_mangle]
+pub extern "C" fn guard_fresh(rule: &[u32], state: &mut [u64]) -> u32
+    ensures result { λ r. ⌜ r ≡ cond (roomFor stateLength (now (state .entry))) 0 tooShort ⌝ }
+    ensures words { λ r. ⌜ now (state .exit) ≡ withWords stateLength (stateWords (freshOf form32 (now (rule .entry)) [])) (now (state .entry)) ⌝ }
+{
+    if state.len() < 21 {
+        return 99;
+    }
+    put_machine(Machine::fresh(rule), state);
+    0
+}
+
+// One step from the machine in `state` to the next, in its place. A register that does not fit leaves everything as it was: 98.
+#[no_mangle]
+pub extern "C" fn guard_step(
+    rule: &[u32],
+    script: &[u32],
+    inputs: &[u16],
+    history: &mut [u16],
+    state: &mut [u64],
+) -> u32
+    ensures result { λ r. ⌜ r ≡ stepResult (now (state .entry)) ⌝ }
+    ensures words { λ r. ⌜ now (state .exit) ≡ cond (isStated (now (state .entry))) (stateWords (stepped (now (rule .entry)) (now (script .entry)) (now (inputs .entry)) (now (state .entry)) (now (history .entry))) ++ drop stateLength (now (state .entry))) (now (state .entry)) ⌝ }
+    ensures left { λ r. ⌜ now (history .exit) ≡ cond (isStated (now (state .entry))) (stepped (now (rule .entry)) (now (script .entry)) (now (inputs .entry)) (now (state .entry)) (now (history .entry)) .history) (now (history .entry)) ⌝ }
+{
+    if state.len() < 21 {
+        return 99;
+    }
+    if !registers_fit(&state[..]) {
+        return 98;
+    }
+    let before = read_machine(&state[..]);
+    let after = before.step(rule, script, inputs, history);
+    put_machine(after, state);
+    0
+}

@@ -1,0 +1,165 @@
+/*
+ * An audiometer in small: it loads a rule and a bare script from hex text, has the guard woven in and checked, plays the script
+ * step by step with inputs from a list, prints each presentation as it is made, and has the record judged afterwards.
+ *
+ *     instrument RULE SCRIPT ACCIDENT INPUT...
+ */
+#include <ctype.h>
+#include <stdbool.h>
+#include <stdio.h>
+#include <stdlib.h>
+
+#include "guard.h"
+
+enum { MOST_INPUTS = 256, MOST_PRESENTATIONS = 64, MOST_STEPS = 10000 };
+
+/* Words in hexadecimal, with blanks between them; # starts a comment. */
+static size_t read_hex(const char *path, uint32_t *words, size_t most)
+{
+    FILE *file = fopen(path, "r");
+    if (file == NULL) {
+        perror(path);
+        exit(2);
+    }
+    size_t n = 0;
+    int c = fgetc(file);
+    while (c != EOF) {
+        if (isspace(c)) {
+            c = fgetc(file);
+        } else if (c == '#') {
+            while (c != EOF && c != '\n')
+                c = fgetc(file);
+        } else {
+            uint32_t word = 0;
+            int digits = 0;
+            for (; isxdigit(c); c = fgetc(file), digits++)
+                word = 16 * word + (uint32_t)(isdigit(c) ? c - '0' : tolower(c) - 'a' + 10);
+            if (digits == 0 || digits > 8 || n == most) {
+                fprintf(stderr, "%s: word %zu is none, or one too many\n", path, n);
+                exit(2);
+            }
+            words[n++] = word;
+        }
+    }
+    fclose(file);
+    return n;
+}
+
+static void tell_refusal(const char *what, uint32_t question, uint64_t place)
+{
+    printf("%s: refused %u at %llu\n", what, (unsigned)question, (unsigned long long)place);
+}
+
+/* The instrument does nothing with what is refused: it goes back to its author. */
+static void stop_if_refused(const char *what, uint32_t question, const uint64_t *numbers)
+{
+    if (question != GUARD_YES) {
+        tell_refusal(what, question, numbers[GUARD_PLACE]);
+        exit(1);
+    }
+}
+
+static void print_state(const uint16_t *state)
+{
+    printf("register 1 = %u, register 2 = %u\n", (unsigned)state[1], (unsigned)state[2]);
+}
+
+/* Plays the script: the next input is fetched when the machine waits for one. Answers how many presentations were made. */
+static uint64_t play(const uint32_t *rule, size_t nodes, const uint32_t *script, size_t words,
+                     const uint16_t *list, size_t list_length, uint16_t *history, size_t history_length)
+{
+    uint64_t state[GUARD_STATE_NUMBERS];
+    uint16_t inputs[MOST_INPUTS] = {0};
+    size_t arrived = 0;
+    guard_fresh(rule, nodes, state, GUARD_STATE_NUMBERS);
+    for (int step = 0; step < MOST_STEPS; step++) {
+        uint64_t presented = state[GUARD_STATE_PRESENTATIONS];
+        uint32_t opcode = script[GUARD_LINE_WORDS * state[GUARD_STATE_LINE]] >> 28;
+        if (opcode == 0)
+            break;
+        if (opcode == 4 && state[GUARD_STATE_INPUTS_READ] == arrived) {
+            if (arrived == list_length)
+                break;
+            inputs[arrived] = list[arrived];
+            arrived++;
+        }
+        guard_step(rule, nodes, script, words, inputs, arrived, history, history_length, state, GUARD_STATE_NUMBERS);
+        if (state[GUARD_STATE_PRESENTATIONS] > presented) {
+            printf("presentation %llu: ", (unsigned long long)presented);
+            print_state(&history[GUARD_REGISTERS * presented]);
+        }
+    }
+    return state[GUARD_STATE_PRESENTATIONS];
+}
+
+static void judge(const char *what, const uint32_t *rule, size_t nodes, const uint16_t *history, size_t presentations)
+{
+    uint64_t numbers[GUARD_JUDGE_NUMBERS];
+    uint32_t question = guard_judge(rule, nodes, history, GUARD_REGISTERS * presentations, numbers, GUARD_JUDGE_NUMBERS);
+    stop_if_refused(what, question, numbers);
+    if (numbers[GUARD_JUDGE_BREACH])
+        printf("%s: the rule is false first at presentation %llu\n", what, (unsigned long long)numbers[GUARD_JUDGE_INDEX]);
+    else
+        printf("%s: the rule is true at all %llu presentations\n", what, (unsigned long long)numbers[GUARD_JUDGE_STATES]);
+}
+
+int main(int argc, char **argv)
+{
+    static uint32_t rule[GUARD_MOST_NODES], bare[GUARD_MOST_LINES];
+    static uint32_t script[GUARD_LINE_WORDS * GUARD_MOST_LINES], accident[GUARD_LINE_WORDS * GUARD_MOST_LINES];
+    static uint16_t inputs[MOST_INPUTS], history[GUARD_REGISTERS * MOST_PRESENTATIONS];
+    static uint16_t again[GUARD_REGISTERS * MOST_PRESENTATIONS];
+    uint64_t numbers[GUARD_RUN_NUMBERS];
+
+    if (argc < 4 || argc - 4 > MOST_INPUTS) {
+        fprintf(stderr, "usage: %s RULE SCRIPT ACCIDENT INPUT...\n", argv[0]);
+        return 2;
+    }
+    size_t nodes = read_hex(argv[1], rule, GUARD_MOST_NODES);
+    size_t lines = read_hex(argv[2], bare, GUARD_MOST_LINES);
+    size_t input_count = (size_t)argc - 4;
+    for (size_t i = 0; i < input_count; i++)
+        inputs[i] = (uint16_t)strtoul(argv[4 + i], NULL, 10);
+
+    uint32_t question = guard_rule(rule, nodes, numbers, GUARD_RULE_NUMBERS);
+    stop_if_refused("rule", question, numbers);
+    question = guard_weave(rule, nodes, bare, lines, script, GUARD_LINE_WORDS * GUARD_MOST_LINES, numbers, GUARD_WEAVE_NUMBERS);
+    stop_if_refused("script", question, numbers);
+    printf("woven: %zu lines became %llu\n", lines, (unsigned long long)numbers[GUARD_WEAVE_LINES]);
+    size_t words = GUARD_LINE_WORDS * (size_t)numbers[GUARD_WEAVE_LINES];
+
+    /* Only an accepted script is played. */
+    question = guard_script(rule, nodes, script, words, numbers, GUARD_SCRIPT_NUMBERS);
+    stop_if_refused("woven script", question, numbers);
+    printf("woven script: accepted\n");
+    size_t made = (size_t)play(rule, nodes, script, words, inputs, input_count, history, GUARD_REGISTERS * MOST_PRESENTATIONS);
+    judge("record", rule, nodes, history, made);
+
+    /* The same in one call. */
+    question = guard_run(rule, nodes, script, words, inputs, input_count, MOST_STEPS,
+                         again, GUARD_REGISTERS * MOST_PRESENTATIONS, numbers, GUARD_RUN_NUMBERS);
+    stop_if_refused("run", question, numbers);
+    static const char *const stops[] = {"refused", "halted", "spent", "dry", "full"};
+    printf("run: %s at line %llu after %llu steps, %llu presentations, %llu inputs read\n", stops[numbers[GUARD_RUN_STOP]],
+           (unsigned long long)numbers[GUARD_RUN_LINE], (unsigned long long)numbers[GUARD_RUN_STEPS],
+           (unsigned long long)numbers[GUARD_RUN_PRESENTATIONS], (unsigned long long)numbers[GUARD_RUN_INPUTS_READ]);
+    bool same = made == numbers[GUARD_RUN_PRESENTATIONS];
+    for (size_t i = 0; i < GUARD_REGISTERS * made; i++)
+        same = same && history[i] == again[i];
+    printf("run and steps: %s\n", same ? "the same record" : "DIFFERENT RECORDS");
+
+    /* A record of another instrument, which presented what the rule forbids: registers 1 and 2 as 0 1, 1 0, 0 0. */
+    static uint16_t other[3 * GUARD_REGISTERS];
+    other[2] = 1;
+    other[GUARD_REGISTERS + 1] = 1;
+    judge("another's record", rule, nodes, other, 3);
+
+    /* A guard that keeps its bit before the presentation is made. */
+    size_t accident_words = read_hex(argv[3], accident, GUARD_LINE_WORDS * GUARD_MOST_LINES);
+    question = guard_script(rule, nodes, accident, accident_words, numbers, GUARD_SCRIPT_NUMBERS);
+    if (question == GUARD_YES)
+        printf("accident: accepted\n");
+    else
+        tell_refusal("accident", question, numbers[GUARD_PLACE]);
+    return 0;
+}

@@ -1,0 +1,165 @@
+/*
+ * The presentation guard, for C and C++.
+ *
+ * Link libguard.a (written by `rt staticlib guard` into target/staticlib; x86-64 Linux). It needs no other library, keeps
+ * nothing between calls, allocates nothing, and may be called from several threads at once.
+ *
+ * Every function here is proved: for each input it ends, reads and writes only what is lent to it, and answers what
+ * crates/spec/specs says (crates/guard/src/lib.rt has the contracts).
+ *
+ * LENT MEMORY. Each array comes as a pointer and its length in elements, not in bytes. A pointer is aligned for its elements and
+ * is not null, also where the length is 0 (any aligned address serves then). `const` arrays are only read. An array that a
+ * function may write overlaps no other array of the same call, and no other thread uses it during the call. Every length is
+ * allowed; nothing is read or written past it.
+ *
+ * THE NUMBER HANDED BACK is 0, or 1 to 15: the question that has a no (enum guard_question), or GUARD_TOO_SHORT where the lent
+ * `numbers` or `state` is shorter than the function needs, or (guard_step alone) GUARD_TOO_LARGE.
+ *
+ * THE OTHER NUMBERS of an answer go into the first elements of `numbers`, as many as the function's GUARD_..._NUMBERS; elements
+ * after these stay as they were. On a refusal (1 to 15) numbers[GUARD_PLACE] is the place and every other number of the answer
+ * is 0; otherwise the place is 0.
+ *
+ * WHAT A REFUSAL LEAVES UNTOUCHED. With 1 to 15 the output of guard_weave and the history of guard_run are as they were. With
+ * GUARD_TOO_SHORT and GUARD_TOO_LARGE nothing at all is written, `numbers` and `state` included.
+ *
+ * FORMATS. A rule is 1 to 32 nodes, one 32-bit word each, from the most significant bit: kind 3 bits, register 4, constant 14,
+ * left 5, right 5, a zero bit; an operand is a node's number, from 0. A bare script is 1 to 1,024 lines of one 32-bit word:
+ * opcode 4 bits, r 4, c 14, target 10; opcodes 0 to 8. An annotated script has eight words a line: the instruction, opcodes 0 to
+ * 12, and seven sets of facts in the order T, F, A, B, M, W, C, node 0 at the most significant bit. A history has 16 numbers for
+ * each presentation, the registers at that time, each at most 16,383.
+ */
+#ifndef GUARD_H
+#define GUARD_H
+
+#include <stddef.h>
+#include <stdint.h>
+
+#ifdef __cplusplus
+extern "C" {
+#endif
+
+/* The questions, in the order in which they are put; each is put to the whole input before the next. In brackets what the place
+ * counts, from 0; the others have place 0. */
+enum guard_question {
+    GUARD_YES = 0,                /* every question has a yes */
+    GUARD_NODE_COUNT = 1,         /* has the rule 1 to 32 nodes? */
+    GUARD_NODE_FIELDS = 2,        /* are kinds 0 to 5 and unused fields zero? (node) */
+    GUARD_NODE_OPERANDS = 3,      /* are operands lower than their node? (node) */
+    GUARD_NODE_USED_ONCE = 4,     /* is each node but the last an operand exactly once? (node) */
+    GUARD_LINE_COUNT = 5,         /* has the script 1 to 1,024 whole lines? */
+    GUARD_LINE_FIELDS = 6,        /* opcodes allowed, unused fields zero, register in c at most 15, node in c a past node, set
+                                     bit 0 or 1? (line) */
+    GUARD_LINE_FOLLOWERS = 7,     /* does every line that can follow exist? (line) */
+    GUARD_FACTS_BELONG = 8,       /* facts only where they belong? (line) */
+    GUARD_FACTS_FIRST = 9,        /* are line 0's facts among the first facts? */
+    GUARD_PRESENT_KNOWN = 10,     /* at each present, is the rule known to be true? (line) */
+    GUARD_FACTS_FOLLOW = 11,      /* are the facts noted at each following line among those passed on? (the line passing) */
+    GUARD_WOVEN_LINES = 12,       /* has the woven script at most 1,024 lines? */
+    GUARD_OUTPUT_WORDS = 13,      /* are there eight words for each woven line in the output? */
+    GUARD_HISTORY_LENGTH = 14,    /* is the history's length a multiple of 16? */
+    GUARD_NUMBERS_SMALL = 15,     /* are all numbers of the history, or of the inputs, at most 16,383? (position) */
+    GUARD_TOO_LARGE = 98,         /* guard_step: a register in `state` is above 65,535 */
+    GUARD_TOO_SHORT = 99          /* `numbers` or `state` is shorter than the function needs */
+};
+
+enum {
+    GUARD_REGISTERS = 16,         /* registers of a script, numbers of a state in a history */
+    GUARD_LARGEST = 16383,        /* the largest number of a register */
+    GUARD_MOST_NODES = 32,
+    GUARD_MOST_LINES = 1024,
+    GUARD_LINE_WORDS = 8          /* words of an annotated line */
+};
+
+/* In the numbers of every function. */
+enum { GUARD_PLACE = 0 };
+
+/* A rule: questions 1 to 4. */
+enum { GUARD_RULE_NUMBERS = 1 /* place */ };
+uint32_t guard_rule(const uint32_t *rule, size_t rule_length, uint64_t *numbers, size_t numbers_length);
+
+/* A bare script for a rule: questions 1 to 7. */
+enum { GUARD_BARE_NUMBERS = 1 /* place */ };
+uint32_t guard_bare(const uint32_t *rule, size_t rule_length, const uint32_t *script, size_t script_length,
+                    uint64_t *numbers, size_t numbers_length);
+
+/* An annotated script for a rule: questions 1 to 11. With 0 it is accepted: whatever the inputs, the rule is true at every
+ * presentation that it makes. `script_length` counts words, eight for a line. */
+enum { GUARD_SCRIPT_NUMBERS = 1 /* place */ };
+uint32_t guard_script(const uint32_t *rule, size_t rule_length, const uint32_t *script, size_t script_length,
+                      uint64_t *numbers, size_t numbers_length);
+
+/* Puts a guard for the rule before each present of a bare script: questions 1 to 7, 12 and 13. The annotated script goes to the
+ * first 8 x lines words of `out`, and guard_script accepts it; later words of `out` stay. */
+enum {
+    GUARD_WEAVE_LINES = 1,        /* how many lines were written */
+    GUARD_WEAVE_NUMBERS = 2
+};
+uint32_t guard_weave(const uint32_t *rule, size_t rule_length, const uint32_t *bare, size_t bare_length,
+                     uint32_t *out, size_t out_length, uint64_t *numbers, size_t numbers_length);
+
+/* Looks for the first presentation of a history at which the rule was false: questions 1 to 4, 14 and 15. The offending state is
+ * history[16 x index] to history[16 x index + 15]. */
+enum {
+    GUARD_JUDGE_BREACH = 1,       /* 1 if the rule is false somewhere, else 0 */
+    GUARD_JUDGE_INDEX = 2,        /* the lowest such presentation, from 0; 0 where there is none */
+    GUARD_JUDGE_STATES = 3,       /* how many presentations the history has, where the rule is true at all of them; else 0 */
+    GUARD_JUDGE_NUMBERS = 4
+};
+uint32_t guard_judge(const uint32_t *rule, size_t rule_length, const uint16_t *history, size_t history_length,
+                     uint64_t *numbers, size_t numbers_length);
+
+/* Runs an annotated script from a fresh start: questions 1 to 11, and 15 of the inputs, then steps until something stops it.
+ * `history` is memory for the presentations, of any length; presentation n goes to history[16 x n] to history[16 x n + 15], and
+ * later numbers stay. What `history` holds before is not looked at. */
+enum guard_stop {
+    GUARD_REFUSED = 0,            /* it did not run */
+    GUARD_HALTED = 1,             /* at a halt */
+    GUARD_SPENT = 2,              /* as many steps as `budget` were made */
+    GUARD_DRY = 3,                /* at an input when none is left */
+    GUARD_FULL = 4                /* at a present with fewer than 16 free numbers in `history` */
+};
+enum {
+    GUARD_RUN_STOP = 1,           /* enum guard_stop */
+    GUARD_RUN_LINE = 2,           /* the line where it stopped, from 0 */
+    GUARD_RUN_STEPS = 3,          /* how many steps were made */
+    GUARD_RUN_PRESENTATIONS = 4,  /* how many presentations */
+    GUARD_RUN_INPUTS_READ = 5,    /* how many inputs were read */
+    GUARD_RUN_REGISTERS = 6,      /* the 16 registers, numbers[6] to numbers[21] */
+    GUARD_RUN_NUMBERS = 22
+};
+uint32_t guard_run(const uint32_t *rule, size_t rule_length, const uint32_t *script, size_t script_length,
+                   const uint16_t *inputs, size_t inputs_length, uint64_t budget,
+                   uint16_t *history, size_t history_length, uint64_t *numbers, size_t numbers_length);
+
+/* A machine between two steps, in the caller's memory. Bits of a node: node 0 is the most significant of the 64. */
+enum {
+    GUARD_STATE_LINE = 0,
+    GUARD_STATE_PRESENTATIONS = 1,
+    GUARD_STATE_INPUTS_READ = 2,
+    GUARD_STATE_KEPT = 3,         /* the kept bits of the past nodes */
+    GUARD_STATE_WORK = 4,         /* the work bits of the past nodes */
+    GUARD_STATE_REGISTERS = 5,    /* the 16 registers, state[5] to state[20] */
+    GUARD_STATE_NUMBERS = 21
+};
+
+/* Writes the fresh start into the first 21 elements of `state`: line 0, all registers 0, nothing presented or read, the kept bits
+ * of the rule's first 32 nodes as they are at first, all work bits 0. It puts no question: 0 or GUARD_TOO_SHORT. */
+uint32_t guard_fresh(const uint32_t *rule, size_t rule_length, uint64_t *state, size_t state_length);
+
+/* One step of an annotated script, from the machine in `state` to the next, in its place; a presentation goes into `history` as
+ * in guard_run. Hands back 0, GUARD_TOO_SHORT or GUARD_TOO_LARGE.
+ *
+ * It puts no question to the rule and the script, so that a step costs little: ask guard_script once before. The promise about
+ * the rule holds for an accepted script, a state that guard_fresh wrote and that only guard_step has changed since, inputs of at
+ * most 16,383, and rule, script, inputs, state and history that nothing else writes. `state` and `history` stay as they are at a
+ * halt, at an input when none is left, at a present with fewer than 16 free numbers, at a line that is not there, and at an
+ * instruction that question 6 would refuse. */
+uint32_t guard_step(const uint32_t *rule, size_t rule_length, const uint32_t *script, size_t script_length,
+                    const uint16_t *inputs, size_t inputs_length, uint16_t *history, size_t history_length,
+                    uint64_t *state, size_t state_length);
+
+#ifdef __cplusplus
+}
+#endif
+
+#endif

@@ -1,0 +1,365 @@
+//! Random requests: what passes every question, what is spoiled bit by bit, several faults at once, lengths one short and one
+//! long.
+use reference::facts::{all_facts, first_facts, pass, Facts};
+use reference::generate;
+use reference::judge::{first_priors, next_priors, values_now};
+use reference::random::Rng;
+use reference::rule::{check_rule, Rule};
+use reference::script::{encode_lines, instruction_words, Line};
+use reference::weave::weave_lines;
+
+/// A call of one function. The lent slices are as long as these and hold these numbers before the call.
+#[derive(Clone, Debug, PartialEq)]
+pub enum Request {
+    Rule { rule: Vec<u32>, numbers: Vec<u64> },
+    Bare { rule: Vec<u32>, script: Vec<u32>, numbers: Vec<u64> },
+    Script { rule: Vec<u32>, script: Vec<u32>, numbers: Vec<u64> },
+    Weave { rule: Vec<u32>, bare: Vec<u32>, out: Vec<u32>, numbers: Vec<u64> },
+    Judge { rule: Vec<u32>, history: Vec<u16>, numbers: Vec<u64> },
+    Run { rule: Vec<u32>, script: Vec<u32>, inputs: Vec<u16>, budget: u64, history: Vec<u16>, numbers: Vec<u64> },
+    Fresh { rule: Vec<u32>, state: Vec<u64> },
+    /// So many steps, one after the other.
+    Steps { rule: Vec<u32>, script: Vec<u32>, inputs: Vec<u16>, history: Vec<u16>, state: Vec<u64>, count: usize },
+}
+
+/// Lent words: as many as the function needs, or one short, one long, none, some more.
+fn numbers(g: &mut Rng, needed: usize) -> Vec<u64> {
+    let length = match g.below(20) {
+        0 => needed - 1,
+        1 => needed + 1,
+        2 => 0,
+        3 => g.below(2 * needed + 3),
+        _ => needed,
+    };
+    (0..length).map(|_| g.next()).collect()
+}
+
+/// One to four bits flipped.
+fn spoil(g: &mut Rng, words: &mut [u32]) {
+    if words.is_empty() {
+        return;
+    }
+    for _ in 0..g.pick(&[1, 1, 1, 2, 3, 4]) {
+        let i = g.below(words.len());
+        words[i] ^= 1 << g.below(32);
+    }
+}
+
+/// One word less, one more.
+fn lengthen(g: &mut Rng, words: &mut Vec<u32>) {
+    if g.chance(1, 2) {
+        words.pop();
+    } else {
+        words.push(if g.chance(1, 2) { 0 } else { g.next() as u32 });
+    }
+}
+
+/// A rule that passes; and its words, sometimes spoiled.
+fn rule(g: &mut Rng, spoiled: usize) -> (Rule, Vec<u32>) {
+    let size = generate::rule_size(g);
+    let rule = generate::rule(g, size);
+    let mut words = rule.words();
+    if g.chance(spoiled, 100) {
+        match g.below(12) {
+            0 => words.clear(),
+            1 => lengthen(g, &mut words),
+            2 => words.resize(g.within(31, 34), 0),
+            3 => words.iter_mut().for_each(|w| *w = g.next() as u32),
+            // operands moved about, so that questions 3 and 4 have something to find
+            4..=6 => {
+                let i = g.below(words.len());
+                words[i] = words[i] & !0x7fe | (g.below(1 << 10) as u32) << 1;
+            }
+            7 | 8 => {
+                let (i, j) = (g.below(words.len()), g.below(words.len()));
+                words.swap(i, j);
+            }
+            _ => spoil(g, &mut words),
+        }
+    }
+    (rule, words)
+}
+
+/// A bare script for a rule, sometimes spoiled.
+fn bare(g: &mut Rng, rule: &Rule, spoiled: usize) -> Vec<u32> {
+    let n = match g.below(200) {
+        0 => g.within(1023, 1026),
+        1..=3 => g.within(40, 300),
+        _ => g.within(1, 20),
+    };
+    let mut words = if n > 1024 { vec![0; n] } else { instruction_words(&generate::bare(g, rule, n)) };
+    if g.chance(spoiled, 100) {
+        match g.below(8) {
+            0 => words.clear(),
+            1 => lengthen(g, &mut words),
+            2 => words.iter_mut().for_each(|w| *w = g.next() as u32),
+            3 => {
+                let i = g.below(words.len());
+                words[i] = (g.below(13) as u32) << 28 | words[i] & 0x0fff_ffff;
+            }
+            _ => spoil(g, &mut words),
+        }
+    }
+    words
+}
+
+/// Instructions of an annotated script at random, with the most facts that can be noted there, found by crossing out what some
+/// line does not pass on.
+fn noted_most(g: &mut Rng, rule: &Rule) -> Vec<Line> {
+    let n = g.within(1, 14);
+    let past = rule.past_nodes();
+    let mut lines: Vec<Line> = vec![];
+    for i in 0..n {
+        let last = i + 1 == n;
+        let target = if g.chance(1, 6) && !last { i + 1 } else { g.below(n) } as u16;
+        let r = g.below(generate::REGISTERS) as u8;
+        let c = g.below(generate::CONSTANTS) as u16;
+        let op = if last { g.pick(&[0, 7]) } else { g.pick(&[1, 2, 3, 4, 5, 6, 7, 8, 8, 8, 9, 9, 10, 10, 11, 11, 12, 12]) };
+        if op >= 9 && past.is_empty() {
+            lines.push(Line::new(7, 0, 0, target));
+            continue;
+        }
+        let node = if op >= 9 { g.pick(&past) as u16 } else { 0 };
+        lines.push(match op {
+            0 | 8 => Line::new(op, 0, 0, 0),
+            1..=3 => Line::new(op, r, c, 0),
+            4 => Line::new(op, r, 0, 0),
+            // a test of the rule, often
+            5 | 6 => match rule.nodes.iter().filter(|d| d.kind == op - 4).nth(g.below(3)) {
+                Some(d) => Line::new(op, d.register, d.constant, target),
+                None => Line::new(op, r, c, target),
+            },
+            7 => Line::new(op, 0, 0, target),
+            9 => Line::new(op, g.below(2) as u8, node, 0),
+            10 | 11 => Line::new(op, 0, node, target),
+            _ => Line::new(op, 0, node, 0),
+        });
+    }
+    let meet = |a: Facts, b: Facts| Facts { set: std::array::from_fn(|k| a.set[k] & b.set[k]) };
+    for l in &mut lines {
+        l.facts = all_facts(rule);
+    }
+    lines[0].facts = first_facts(rule);
+    loop {
+        let before: Vec<Facts> = lines.iter().map(|l| l.facts).collect();
+        for i in 0..n {
+            let p = pass(rule, &lines[i]);
+            if let Some(f) = p.target {
+                let t = lines[i].target as usize;
+                lines[t].facts = meet(lines[t].facts, f);
+            }
+            if let Some(f) = p.next {
+                lines[i + 1].facts = meet(lines[i + 1].facts, f);
+            }
+        }
+        if lines.iter().map(|l| l.facts).eq(before) {
+            return lines;
+        }
+    }
+}
+
+/// An annotated script for a rule: woven, or with the most facts noted; sometimes spoiled.
+fn annotated(g: &mut Rng, rule: &Rule, spoiled: usize) -> Vec<u32> {
+    let mut lines = if g.chance(1, 3) {
+        noted_most(g, rule)
+    } else {
+        let n = if g.chance(1, 100) { g.within(20, 200) } else { g.within(1, 12) };
+        let bare = generate::bare(g, rule, n);
+        weave_lines(rule, &bare).0
+    };
+    // Facts left out: a script may note fewer than it could.
+    if g.chance(1, 3) {
+        let every = g.within(2, 40);
+        for l in &mut lines {
+            for set in &mut l.facts.set {
+                for node in 0..rule.len() {
+                    if g.chance(1, every) {
+                        *set &= !(1 << (31 - node));
+                    }
+                }
+            }
+        }
+    }
+    let mut words = encode_lines(&lines);
+    if g.chance(spoiled, 100) {
+        match g.below(16) {
+            0 => words.clear(),
+            1 => lengthen(g, &mut words),
+            2 => {
+                for _ in 0..8 {
+                    lengthen(g, &mut words);
+                }
+            }
+            3 => words.resize(8 * g.within(1023, 1026), 0),
+            4 => words.iter_mut().for_each(|w| *w = g.next() as u32),
+            // an instruction's bit
+            5..=7 => {
+                let i = 8 * g.below(lines.len());
+                words[i] ^= 1 << g.below(32);
+            }
+            // a fact of a node that is there, at one line or at line 0
+            8..=12 => {
+                let line = if g.chance(1, 4) { 0 } else { g.below(lines.len()) };
+                words[8 * line + g.within(1, 7)] ^= 1 << (31 - g.below(rule.len()));
+            }
+            _ => spoil(g, &mut words),
+        }
+    }
+    words
+}
+
+/// A history of which the rule is often true for a while, sometimes spoiled.
+fn history(g: &mut Rng, rule: &Rule, spoiled: usize) -> Vec<u16> {
+    let most = if g.chance(1, 200) { 400 } else { 30 };
+    let mut words: Vec<u16> = vec![];
+    let mut prior = first_priors(rule);
+    for mut s in generate::history(g, most) {
+        let mut v = values_now(rule, &prior, &s);
+        for _ in 0..20 {
+            if v[rule.last()] || g.chance(1, 30) {
+                break;
+            }
+            s = generate::history(g, 1).first().copied().unwrap_or(s);
+            v = values_now(rule, &prior, &s);
+        }
+        prior = next_priors(rule, &v);
+        words.extend(s);
+    }
+    if g.chance(spoiled, 100) {
+        match g.below(4) {
+            0 => words.extend((0..g.within(1, 17)).map(|_| 0)),
+            1 => {
+                words.pop();
+            }
+            _ => {
+                for _ in 0..g.pick(&[1, 1, 2]) {
+                    if !words.is_empty() {
+                        let i = g.below(words.len());
+                        words[i] = g.pick(&[16_383, 16_384, 32_768, 65_535]);
+                    }
+                }
+            }
+        }
+    }
+    words
+}
+
+fn inputs(g: &mut Rng, spoiled: usize) -> Vec<u16> {
+    let mut words = generate::inputs(g);
+    if g.chance(spoiled, 100) && !words.is_empty() {
+        let i = g.below(words.len());
+        words[i] = g.pick(&[16_383, 16_384, 65_535]);
+    }
+    words
+}
+
+fn lent_history(g: &mut Rng) -> Vec<u16> {
+    let length = match g.below(4) {
+        0 => g.below(180),
+        1 => 16 * g.below(12) + g.pick(&[0, 15, 1]),
+        _ => 16 * g.below(30),
+    };
+    (0..length).map(|_| g.next() as u16).collect()
+}
+
+fn budget(g: &mut Rng) -> u64 {
+    match g.below(6) {
+        0 => g.below(4) as u64,
+        1 => g.below(100) as u64,
+        _ => g.below(3000) as u64,
+    }
+}
+
+/// A machine's words at random.
+fn state(g: &mut Rng, rule: &Rule, lines: usize) -> Vec<u64> {
+    let mut words = vec![0; 21];
+    words[0] = g.below(lines + 2) as u64;
+    words[1] = g.below(10) as u64;
+    words[2] = g.below(40) as u64;
+    words[3] = g.next();
+    words[4] = g.next();
+    for w in &mut words[5..] {
+        *w = g.pick(&[0, 1, 2, 3, 16_383, 16_384, 65_535]);
+    }
+    match g.below(10) {
+        0 => words[g.below(3)] = g.next(),
+        1 => words[g.below(3)] = u64::MAX,
+        2 => words[5 + g.below(16)] = g.pick(&[65_536, 65_535, u64::MAX, 1 << 32]),
+        3 => words[3] &= !0 << (64 - rule.len()),
+        4 => {
+            words.pop();
+        }
+        5 => words.push(g.next()),
+        _ => {}
+    }
+    words
+}
+
+/// Request number `n` of a seed: it depends on nothing else, so that a difference can be looked at again by its number.
+pub fn request(seed: u64, n: u64) -> Request {
+    let mut g = Rng(seed ^ n.wrapping_mul(0xd134_2543_de82_ef95));
+    let g = &mut g;
+    g.next();
+    match g.below(20) {
+        0 | 1 => {
+            let rule = rule(g, 70).1;
+            Request::Rule { rule, numbers: numbers(g, 1) }
+        }
+        2 | 3 => {
+            let (table, rule) = rule(g, 5);
+            let script = bare(g, &table, 60);
+            Request::Bare { rule, script, numbers: numbers(g, 1) }
+        }
+        4..=8 => {
+            let (table, rule) = rule(g, 3);
+            let script = annotated(g, &table, 60);
+            Request::Script { rule, script, numbers: numbers(g, 1) }
+        }
+        9..=11 => {
+            let (table, rule) = rule(g, 5);
+            let bare = bare(g, &table, 15);
+            let needed = check_rule(&rule).ok().map_or(0, |t| {
+                let presents = bare.iter().filter(|&&w| w >> 28 == 8).count();
+                8 * (bare.len() - presents + presents * t.block_lines())
+            });
+            let length = match g.below(12) {
+                0 => needed.saturating_sub(1),
+                1 => needed + 1,
+                2 => 0,
+                3 => g.below(needed + 1),
+                _ => needed + g.below(3) * g.below(20),
+            };
+            // a script that is too long needs no output
+            let out = (0..length.min(8 * 1025)).map(|_| g.next() as u32).collect();
+            Request::Weave { rule, bare, out, numbers: numbers(g, 2) }
+        }
+        12 | 13 => {
+            let (table, rule) = rule(g, 5);
+            let history = history(g, &table, 30);
+            Request::Judge { rule, history, numbers: numbers(g, 4) }
+        }
+        14..=16 => {
+            let (table, rule) = rule(g, 2);
+            let script = annotated(g, &table, 8);
+            let inputs = inputs(g, 8);
+            Request::Run { rule, script, inputs, budget: budget(g), history: lent_history(g), numbers: numbers(g, 22) }
+        }
+        17 => {
+            let rule = rule(g, 50).1;
+            Request::Fresh { rule, state: numbers(g, 21) }
+        }
+        _ => {
+            let (table, rule) = rule(g, 30);
+            let script = annotated(g, &table, 30);
+            let inputs = inputs(g, 20);
+            let state = if g.chance(1, 2) {
+                let mut words = vec![0; 21];
+                words[3] = (0..table.len()).filter(|&i| table.nodes[i].kind == 5).map(|i| 1 << (63 - i)).sum();
+                words
+            } else {
+                state(g, &table, script.len() / 8)
+            };
+            Request::Steps { rule, script, inputs, history: lent_history(g), state, count: g.within(1, 30) }
+        }
+    }
+}

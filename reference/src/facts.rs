@@ -1,0 +1,238 @@
+//! Facts, closing, passing on.
+use crate::rule::Rule;
+use crate::script::Line;
+use std::cell::Cell;
+
+pub const T: usize = 0;
+pub const F: usize = 1;
+pub const A: usize = 2;
+pub const B: usize = 3;
+pub const M: usize = 4;
+pub const W: usize = 5;
+pub const C: usize = 6;
+
+/// Seven sets of nodes, in the order T, F, A, B, M, W, C; node 0 is the most significant bit.
+#[derive(Clone, Copy, Debug, PartialEq, Eq, Default)]
+pub struct Facts {
+    pub set: [u32; 7],
+}
+
+pub fn bit(node: usize) -> u32 {
+    1 << (31 - node)
+}
+
+impl Facts {
+    pub fn none() -> Facts {
+        Facts::default()
+    }
+
+    pub fn has(&self, fact: usize, node: usize) -> bool {
+        self.set[fact] & bit(node) != 0
+    }
+
+    pub fn add(&mut self, fact: usize, node: usize) {
+        self.set[fact] |= bit(node);
+    }
+
+    pub fn drop(&mut self, fact: usize, node: usize) {
+        self.set[fact] &= !bit(node);
+    }
+
+    pub fn with(mut self, fact: usize, node: usize) -> Facts {
+        self.add(fact, node);
+        self
+    }
+
+    pub fn among(&self, other: &Facts) -> bool {
+        (0..7).all(|k| self.set[k] & !other.set[k] == 0)
+    }
+}
+
+thread_local! {
+    static PLANTED: Cell<bool> = const { Cell::new(false) };
+}
+
+/// Runs `work` with one fact rule of this thread's reference made wrong: 1 to 4 keep W. It is there to show that a comparison
+/// notices such a fault.
+pub fn with_planted_fault<X>(work: impl FnOnce() -> X) -> X {
+    PLANTED.with(|p| p.set(true));
+    let x = work();
+    PLANTED.with(|p| p.set(false));
+    x
+}
+
+/// T and F belong to the rule's nodes, the other five to its past nodes only.
+pub fn belongs(rule: &Rule, fact: usize, node: usize) -> bool {
+    match fact {
+        T | F => node < rule.len(),
+        _ => rule.is_past(node),
+    }
+}
+
+/// Every fact that belongs somewhere.
+pub fn all_facts(rule: &Rule) -> Facts {
+    let mut s = Facts::none();
+    for fact in 0..7 {
+        for node in 0..32 {
+            if belongs(rule, fact, node) {
+                s.add(fact, node);
+            }
+        }
+    }
+    s
+}
+
+pub fn close(rule: &Rule, noted: &Facts) -> Facts {
+    let mut s = *noted;
+    for (i, d) in rule.nodes.iter().enumerate() {
+        let (l, r) = (d.left as usize, d.right as usize);
+        match d.kind {
+            0 => s.add(F, i),
+            3 => {
+                if s.has(F, l) || s.has(T, r) {
+                    s.add(T, i);
+                }
+                if s.has(T, l) && s.has(F, r) {
+                    s.add(F, i);
+                }
+            }
+            4 => {
+                if s.has(T, r) || (s.has(T, l) && s.has(A, i)) {
+                    s.add(T, i);
+                }
+                if (s.has(F, r) && s.has(F, l)) || (s.has(F, r) && s.has(B, i)) {
+                    s.add(F, i);
+                }
+            }
+            5 => {
+                if s.has(A, i) {
+                    s.add(T, i);
+                }
+                if s.has(B, i) {
+                    s.add(F, i);
+                }
+            }
+            _ => {}
+        }
+    }
+    s
+}
+
+/// M for every past node, A for weak previous, B for since, closed.
+pub fn first_facts(rule: &Rule) -> Facts {
+    let mut s = Facts::none();
+    for i in rule.past_nodes() {
+        s.add(M, i);
+        s.add(if rule.nodes[i].kind == 5 { A } else { B }, i);
+    }
+    close(rule, &s)
+}
+
+/// The node whose T or F is the next prior of node i.
+fn next_prior_node(rule: &Rule, i: usize) -> usize {
+    if rule.nodes[i].kind == 5 {
+        rule.nodes[i].left as usize
+    } else {
+        i
+    }
+}
+
+#[derive(Clone, Copy, Debug, PartialEq, Eq)]
+pub struct Passed {
+    /// to the target, if this instruction can go to its target
+    pub target: Option<Facts>,
+    /// to the next line, if it can go there
+    pub next: Option<Facts>,
+}
+
+/// From the facts noted at a line to what its instruction passes on.
+pub fn pass(rule: &Rule, line: &Line) -> Passed {
+    let (target, next) = pass_open(rule, line, close(rule, &line.facts));
+    Passed { target: target.map(|f| close(rule, &f)), next: next.map(|f| close(rule, &f)) }
+}
+
+fn pass_open(rule: &Rule, line: &Line, s: Facts) -> (Option<Facts>, Option<Facts>) {
+    let c = line.c as usize;
+    match line.op {
+        0 => (None, None),
+        1..=4 => {
+            let mut n = s;
+            n.set[T] = 0;
+            n.set[F] = 0;
+            if !PLANTED.with(Cell::get) {
+                n.set[W] = 0;
+            }
+            (None, Some(n))
+        }
+        5 | 6 => {
+            let (mut yes, mut not) = (s, s);
+            for (i, d) in rule.nodes.iter().enumerate() {
+                if d.kind == line.op - 4 && d.register == line.r && d.constant == line.c {
+                    yes.add(T, i);
+                    not.add(F, i);
+                }
+            }
+            (Some(yes), Some(not))
+        }
+        7 => (Some(s), None),
+        8 => {
+            let mut n = Facts::none();
+            for i in rule.past_nodes() {
+                let k = next_prior_node(rule, i);
+                if s.has(T, k) {
+                    n.add(A, i);
+                }
+                if s.has(F, k) {
+                    n.add(B, i);
+                }
+                if s.has(W, i) {
+                    n.add(C, i);
+                }
+            }
+            (None, Some(n))
+        }
+        9 => {
+            let mut n = s;
+            let k = next_prior_node(rule, c);
+            n.drop(W, c);
+            n.drop(C, c);
+            if (line.r == 1 && s.has(T, k)) || (line.r == 0 && s.has(F, k)) {
+                n.add(W, c);
+            }
+            if (line.r == 1 && s.has(A, c)) || (line.r == 0 && s.has(B, c)) {
+                n.add(C, c);
+            }
+            (None, Some(n))
+        }
+        10 => {
+            let (mut yes, mut not) = (s, s);
+            if s.has(M, c) {
+                yes.add(A, c);
+                not.add(B, c);
+            }
+            (Some(yes), Some(not))
+        }
+        11 => {
+            let (mut yes, mut not) = (s, s);
+            let k = next_prior_node(rule, c);
+            if s.has(W, c) {
+                yes.add(T, k);
+                not.add(F, k);
+            }
+            if s.has(C, c) {
+                yes.add(A, c);
+                not.add(B, c);
+            }
+            (Some(yes), Some(not))
+        }
+        12 => {
+            let mut n = s;
+            n.drop(M, c);
+            if s.has(C, c) {
+                n.add(M, c);
+            }
+            (None, Some(n))
+        }
+        _ => unreachable!(),
+    }
+}

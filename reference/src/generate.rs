@@ -1,0 +1,97 @@
+//! Random rules, scripts, inputs and histories that pass every question. Few registers and small constants, so that tests are
+//! often true.
+use crate::random::Rng;
+use crate::rule::{check_rule, Node, Rule};
+use crate::script::{check_bare, instruction_words, Line};
+use crate::State;
+
+pub const REGISTERS: usize = 3;
+pub const CONSTANTS: usize = 4;
+
+fn leaf(g: &mut Rng) -> Node {
+    match g.pick(&[0, 1, 1, 1, 2, 2]) {
+        0 => Node::new(0, 0, 0, 0, 0),
+        k => Node::new(k, g.below(REGISTERS) as u8, g.below(CONSTANTS) as u16, 0, 0),
+    }
+}
+
+/// A rule of n nodes, in any order that question 3 allows.
+pub fn rule(g: &mut Rng, n: usize) -> Rule {
+    let mut nodes: Vec<Node> = vec![];
+    let mut unused: Vec<u8> = vec![];
+    for i in 0..n {
+        let left_after = n - i - 1;
+        loop {
+            let mut rest = unused.clone();
+            let mut take = |g: &mut Rng| if rest.is_empty() { None } else { Some(rest.swap_remove(g.below(rest.len()))) };
+            let node = match g.below(10) {
+                0..=2 => Some(leaf(g)),
+                k @ 3..=8 => take(g).and_then(|l| take(g).map(|r| Node::new(if k < 6 { 3 } else { 4 }, 0, 0, l, r))),
+                _ => take(g).map(|l| Node::new(5, 0, 0, l, 0)),
+            };
+            let Some(node) = node else { continue };
+            rest.push(i as u8);
+            // Each later node lowers the number of unused ones by one at most, and one is left at the end.
+            if rest.len() - 1 <= left_after && (left_after > 0 || rest.len() == 1) {
+                nodes.push(node);
+                unused = rest;
+                break;
+            }
+        }
+    }
+    let words: Vec<u32> = nodes.iter().map(Node::encode).collect();
+    check_rule(&words).expect("a generated rule passes")
+}
+
+pub fn rule_size(g: &mut Rng) -> usize {
+    match g.below(40) {
+        0 => 32,
+        1 | 2 => g.within(11, 32),
+        _ => g.within(1, 10),
+    }
+}
+
+/// A bare script of n lines.
+pub fn bare(g: &mut Rng, rule: &Rule, n: usize) -> Vec<Line> {
+    let mut lines = vec![];
+    for i in 0..n {
+        let last = i + 1 == n;
+        let op = loop {
+            let op = g.pick(&[0, 1, 2, 3, 4, 4, 4, 4, 5, 6, 7, 7, 8, 8, 8, 8]);
+            if (!last || matches!(op, 0 | 7)) && (op != 0 || last || g.chance(1, 4)) {
+                break op;
+            }
+        };
+        let r = g.below(REGISTERS) as u8;
+        let c = g.below(CONSTANTS) as u16;
+        let t = if g.chance(1, 8) && !last { i + 1 } else { g.below(n) } as u16;
+        lines.push(match op {
+            0 | 8 => Line::new(op, 0, 0, 0),
+            1 => Line::new(op, r, c, 0),
+            2 => Line::new(op, r, g.below(REGISTERS) as u16, 0),
+            3 => Line::new(op, r, if g.chance(1, 10) { 16_383 - c } else { c }, 0),
+            4 => Line::new(op, r, 0, 0),
+            5 | 6 => Line::new(op, r, c, t),
+            _ => Line::new(op, 0, 0, t),
+        });
+    }
+    check_bare(&rule.words(), &instruction_words(&lines)).expect("a generated script passes").1
+}
+
+pub fn inputs(g: &mut Rng) -> Vec<u16> {
+    let n = g.below(40);
+    (0..n).map(|_| if g.chance(1, 50) { 16_383 } else { g.below(CONSTANTS) as u16 }).collect()
+}
+
+pub fn history(g: &mut Rng, most: usize) -> Vec<State> {
+    let n = g.below(most + 1);
+    (0..n)
+        .map(|_| {
+            let mut s = [0; 16];
+            for dial in s.iter_mut().take(REGISTERS) {
+                *dial = g.below(CONSTANTS) as u16;
+            }
+            s
+        })
+        .collect()
+}

@@ -1,0 +1,152 @@
+//! The specification's clinic cases.
+use reference::judge::judge;
+use reference::listing::listing;
+use reference::machine::{run, Stop};
+use reference::rule::check_rule;
+use reference::script::{check_bare, check_script};
+use reference::weave::weave;
+use reference::{no, No};
+
+const LISTING: &str = "lines 16
+0 4 1 0 0
+1 4 2 0 0
+2 5 2 1 8
+3 7 0 0 4
+4 10 0 2 6
+5 7 0 0 10
+6 5 1 1 8
+7 7 0 0 10
+8 9 1 2 0
+9 7 0 0 11
+10 9 0 2 0
+11 11 0 2 13
+12 7 0 0 15
+13 8 0 0 0
+14 12 0 2 0
+15 7 0 0 0
+";
+
+/// Register 1 = 1 since register 2 = 1.
+const SINCE: [u32; 3] = [0x2200_0800, 0x2400_0800, 0x8000_0002];
+
+/// "input 1, input 2, present, go to 0"
+const TONE: [u32; 4] = [4 << 28 | 1 << 24, 4 << 28 | 2 << 24, 8 << 28, 7 << 28];
+
+/// States with these values of registers 1 and 2.
+fn two(pairs: &[(u16, u16)]) -> Vec<u16> {
+    let mut h = vec![];
+    for &(a, b) in pairs {
+        let mut s = [0u16; 16];
+        s[1] = a;
+        s[2] = b;
+        h.extend(s);
+    }
+    h
+}
+
+fn refusal<X>(answer: Result<X, No>) -> Option<(u32, usize)> {
+    answer.err().map(|n| (n.number, n.place))
+}
+
+fn woven() -> Vec<u32> {
+    let mut out = vec![0; 8 * 16];
+    assert_eq!(weave(&SINCE, &TONE, &mut out), Ok(16));
+    out
+}
+
+#[test]
+fn rules() {
+    assert_eq!(refusal(check_rule(&SINCE)), None);
+    assert_eq!(refusal(check_rule(&[])), Some((1, 0)));
+    assert_eq!(refusal(check_rule(&[0x6000_0000])), Some((3, 0)));
+    assert_eq!(refusal(check_rule(&[0, 0x6000_0000])), Some((4, 0)));
+}
+
+#[test]
+fn judging() {
+    // by the table of kinds, and with priors kept
+    for direct in [usize::MAX, 0] {
+        let h = two(&[(0, 1), (1, 0), (0, 0)]);
+        let v = judge(&SINCE, &h, direct).unwrap();
+        assert!(v.index == 2 && v.part == &h[32..48] && v.part.as_ptr() == h[32..].as_ptr());
+        assert_eq!(judge(&SINCE, &two(&[(1, 0)]), direct).unwrap().index, 0);
+        let v = judge(&SINCE, &[], direct).unwrap();
+        assert!(v.index == 0 && v.part.is_empty());
+        let v = judge(&[0x2200_0800, 5 << 29], &[0; 32], direct).unwrap();
+        assert!(v.index == 1 && v.part == [0; 16]);
+    }
+}
+
+#[test]
+fn bare_scripts() {
+    assert_eq!(refusal(check_bare(&SINCE, &[0])), None);
+    assert_eq!(refusal(check_bare(&SINCE, &[])), Some((5, 0)));
+    assert_eq!(refusal(check_bare(&SINCE, &[8 << 28])), Some((7, 0)));
+}
+
+#[test]
+fn the_longest_script() {
+    let mut out = vec![0xdead_beef; 8 * 1024];
+    let mut long = vec![0; 1012];
+    long[5] = 8 << 28;
+    assert_eq!(weave(&SINCE, &long, &mut out), Ok(1024));
+    let before = out.clone();
+    long.push(0);
+    assert_eq!(weave(&SINCE, &long, &mut out), no(12, 0));
+    assert!(out == before);
+}
+
+fn bytes(words: &[u32]) -> Vec<u8> {
+    words.iter().flat_map(|w| w.to_be_bytes()).collect()
+}
+
+#[test]
+fn the_listing() {
+    let mut input = vec![3];
+    input.extend(SINCE);
+    input.push(4);
+    input.extend(TONE);
+    let all = bytes(&input);
+    assert_eq!(listing(&all), LISTING);
+    let mut more = all.clone();
+    more.extend([1, 2, 3, 4, 5]);
+    assert_eq!(listing(&more), LISTING, "later bytes are ignored");
+    for cut in 0..all.len() {
+        assert_eq!(listing(&all[..cut]), if cut < 16 { "refused 1 0\n" } else { "refused 5 0\n" });
+    }
+    for (words, want) in [
+        (&[0][..], "refused 1 0\n"),
+        (&[33], "refused 1 0\n"),
+        (&[1, 0, 0], "refused 5 0\n"),
+        (&[1, 0, 1025], "refused 5 0\n"),
+        (&[1, 0x6000_0000, 1025], "refused 3 0\n"),
+        (&[2, 0, 0x6000_0000], "refused 4 0\n"),
+    ] {
+        assert_eq!(listing(&bytes(words)), want);
+    }
+}
+
+#[test]
+fn the_run() {
+    let script = woven();
+    let inputs = [1, 0, 0, 1, 1, 0];
+    let mut history = vec![7; 48];
+    let r = run(&SINCE, &script, &inputs, 1000, &mut history).unwrap();
+    assert!(r.stop == Stop::Dry && r.steps == 31 && r.presentations == 2 && r.read == 6);
+    assert!(history[..32] == two(&[(0, 1), (1, 0)])[..] && history[32..] == [7; 16]);
+    let r = run(&SINCE, &script, &inputs, 31, &mut history).unwrap();
+    assert!(r.stop == Stop::Spent && r.steps == 31);
+}
+
+#[test]
+fn spoiled_scripts() {
+    let spoiled = |at: usize, word: u32| {
+        let mut script = woven();
+        script[at] = word;
+        refusal(check_script(&SINCE, &script))
+    };
+    assert_eq!(refusal(check_script(&SINCE, &woven())), None);
+    assert_eq!(spoiled(8 * 13 + 1, 0), Some((10, 13)), "line 13 without T");
+    assert_eq!(spoiled(8 * 4 + 2, 0), Some((11, 4)), "line 4 without F");
+    assert_eq!(spoiled(8 * 14, 7 << 28 | 15), Some((11, 14)), "line 14 made go to 15");
+}
