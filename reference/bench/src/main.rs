@@ -5,7 +5,7 @@ mod twin;
 
 use compare::proved;
 use compare::requests::{request, Request};
-use reference::judge::{first_priors, next_priors, values_now};
+use reference::judge::{first_false_kept, first_priors, next_priors, values_now};
 use reference::random::Rng;
 use reference::rule::check_rule;
 use std::cell::RefCell;
@@ -89,15 +89,33 @@ fn long_history(rule: &[u32], states: usize) -> Vec<u16> {
     words
 }
 
-/// A bare script that weaves to so many lines for a rule whose block has `block` lines: inputs and presents, then a go to 0.
+/// The same with one state over and over: every branch of a judge goes the way it went before.
+fn steady_history(rule: &[u32], states: usize) -> Vec<u16> {
+    let rule = check_rule(rule).expect("a rule");
+    let mut g = Rng(5);
+    loop {
+        let state: [u16; 16] = std::array::from_fn(|_| g.pick(&[0, 1, 2]));
+        if first_false_kept(&rule, &vec![state; 100]) == 100 {
+            return state.repeat(states);
+        }
+    }
+}
+
+/// A bare script that weaves to so many lines for a rule whose block has `block` lines: register writes with a present after every
+/// second one as long as there is room, then a go to 0.
 fn bare_for(block: usize, lines: usize) -> Vec<u32> {
-    let presents = (lines - 3) / (block + 2).min(lines - 3);
-    let others = lines - presents * block - 1;
     let mut words = vec![];
-    for i in 0..others {
-        words.push(if i % 2 == 0 { 4 << 28 | 1 << 24 } else { 3 << 28 | 2 << 24 | 1 << 10 });
-        if words.iter().filter(|&&w| w >> 28 == 8).count() < presents && (i + 1) * presents / others > words.iter().filter(|&&w| w >> 28 == 8).count() {
+    let mut left = lines - 1;
+    while left > 0 {
+        words.push(4 << 28 | 1 << 24);
+        left -= 1;
+        if left > 0 {
+            words.push(3 << 28 | 2 << 24 | 1 << 10);
+            left -= 1;
+        }
+        if left >= block {
             words.push(8 << 28);
+            left -= block;
         }
     }
     words.push(7 << 28);
@@ -186,21 +204,22 @@ fn main() {
     let rules = [("R1", R1.to_vec()), ("R2", R2.to_vec()), ("R3", R3.to_vec()), ("R4", r4)];
     let mut rows = vec![];
     for (name, rule) in &rules {
-        let history = long_history(rule, 16_384);
-        let mut numbers = [0; 4];
-        assert_eq!((proved::judge(rule, &history, &mut numbers), numbers), (0, [0, 0, 0, 16_384]));
-        assert!(matches!(twin::judge(rule, &history), Ok(None)));
-        rows.push(row(
-            &format!("judge {name}, {} nodes, 16,384 states", rule.len()),
-            "state",
-            16_384.0,
-            || {
-                black_box(proved::judge(black_box(rule), black_box(&history), &mut numbers));
-            },
-            || {
-                black_box(twin::judge(black_box(rule), black_box(&history)).is_ok());
-            },
-        ));
+        for (kind, history) in [("changing", long_history(rule, 16_384)), ("steady", steady_history(rule, 16_384))] {
+            let mut numbers = [0; 4];
+            assert_eq!((proved::judge(rule, &history, &mut numbers), numbers), (0, [0, 0, 0, 16_384]));
+            assert!(matches!(twin::judge(rule, &history), Ok(None)));
+            rows.push(row(
+                &format!("judge {name}, {} nodes, 16,384 {kind} states", rule.len()),
+                "state",
+                16_384.0,
+                || {
+                    black_box(proved::judge(black_box(rule), black_box(&history), &mut numbers));
+                },
+                || {
+                    black_box(twin::judge(black_box(rule), black_box(&history)).is_ok());
+                },
+            ));
+        }
     }
     for (name, rule) in [&rules[0], &rules[3]] {
         let block = check_rule(rule).expect("a rule").block_lines();
@@ -251,10 +270,31 @@ fn main() {
             r.name, r.unit, p.0, p.1, t.0, t.1, p.0 / t.0, p.1 / t.1
         );
     }
+    println!("\nOne step by guard_step, with the state in lent memory: {:.1} ns (best of {REPEATS})", step_alone());
     println!("\nSteps a second, best of the run:");
     for r in rows.iter().filter(|r| r.unit == "step") {
         println!("{}: proved {:.0} million, twin {:.0} million", r.name, 1e3 / r.proved[0], 1e3 / r.twin[0]);
     }
+}
+
+/// The time of one step that is asked for by itself, in nanoseconds.
+fn step_alone() -> f64 {
+    let bare = [4 << 28 | 1 << 24, 4 << 28 | 2 << 24, 8 << 28, 7 << 28];
+    let mut script = vec![0; 8 * 16];
+    assert_eq!(proved::weave(R1, &bare, &mut script, &mut [0; 2]), 0);
+    let inputs = vec![1; 40_000];
+    let mut history = vec![0; 16 * 20_000];
+    let mut best = f64::MAX;
+    for _ in 0..REPEATS {
+        let mut state = [0; 21];
+        proved::fresh(R1, &mut state);
+        let start = Instant::now();
+        for _ in 0..20_000 {
+            black_box(proved::step(R1, &script, &inputs, &mut history, &mut state));
+        }
+        best = best.min(start.elapsed().as_secs_f64() * 1e9 / 20_000.0);
+    }
+    best
 }
 
 /// Runs long enough that the questions before them take no time that counts.
