@@ -23,9 +23,9 @@ added-one x at o h =
     record {
       ends = refl;
       holds =
-        set-split o at x h
-        ∙ ap (λ i. take at o ++ x ∷ drop i o) e
-        ∙ sym (append-assoc (take at o) (x ∷ []) (drop (at + 1) o));
+          set-split o at x h
+          ∙ ap (λ i. take at o ++ x ∷ drop i o) e
+          ∙ sym (append-assoc (take at o) (x ∷ []) (drop (at + 1) o));
     }
 
 module _ (a : List ℕ) (at end : ℕ) (o o1 : List ℕ) (room : at + length a ≤ length o) (x : Added a at end o o1) where
@@ -57,10 +57,10 @@ module _ (a : List ℕ) (at end : ℕ) (o o1 : List ℕ) (room : at + length a �
       record {
         ends = s;
         holds =
-          y .holds
-          ∙ ap (λ t. t ++ b ++ drop (end + length b) o1) head
-          ∙ ap (λ t. take at o ++ a ++ b ++ t) (rest (length b) ∙ ap (λ n. drop n o) p)
-          ∙ ap (λ t. t ++ drop (at + length (a ++ b)) o) (append-assoc (take at o) a b);
+            y .holds
+            ∙ ap (λ t. t ++ b ++ drop (end + length b) o1) head
+            ∙ ap (λ t. take at o ++ a ++ b ++ t) (rest (length b) ∙ ap (λ n. drop n o) p)
+            ∙ ap (λ t. t ++ drop (at + length (a ++ b)) o) (append-assoc (take at o) a b);
       }
 
 -- a byte after others
@@ -77,9 +77,9 @@ added-none at o =
     record {
       ends = e;
       holds =
-        sym (take-append-drop at o)
-        ∙ ap (λ l. l ++ drop at o) (sym (append-nil (take at o)))
-        ∙ ap (λ i. take at o ++ [] ++ drop i o) e;
+          sym (take-append-drop at o)
+          ∙ ap (λ l. l ++ drop at o) (sym (append-nil (take at o)))
+          ∙ ap (λ i. take at o ++ [] ++ drop i o) e;
     }
 
 -- the bytes of a text, one after another
@@ -95,7 +95,7 @@ module _ (text : List ℕ) (at : ℕ) (o : List ℕ) (room : at + length text �
       let e : suc i ≡ i + 1 = omega arith in
       let p : at + i + 1 ≡ at + (i + 1) = omega arith in
       let y = added-then (take i text) at (at + i) o o1 (omega arith) x (getD text i 0 ∷ []) (at + i + 1) (set o1 (at + i) (getD text i 0))
-        (added-one (getD text i 0) (at + i) o1 (omega arith)) in
+      (added-one (getD text i 0) (at + i) o1 (omega arith)) in
       subst (λ n. Added (take (i + 1) text) at n o (set o1 (at + i) (getD text i 0))) p
       (added-as (take i text ++ (getD text i 0 ∷ [])) (take (i + 1) text) at (at + i + 1) o (set o1 (at + i) (getD text i 0))
       (sym (take-suc text i 0 h) ∙ ap (λ n. take n text) e) y)

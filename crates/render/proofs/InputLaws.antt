@@ -39,8 +39,8 @@ pub count-most : (most : ℕ) (bytes : List ℕ) (at : ℕ) → countIn most byt
 count-most most bytes at =
     let n = wordAt bytes at in
     elim (le-or-lt n most) [
-      inl h ↦ elim (le-or-lt (at + 1 + n) (length bytes / 4)) [
-        inl m ↦ let e = count-there most bytes at n refl h m in omega arith
+      | inl h ↦ elim (le-or-lt (at + 1 + n) (length bytes / 4)) [
+        | inl m ↦ let e = count-there most bytes at n refl h m in omega arith
         | inr m ↦ let e = count-missing most bytes at n refl h m in omega arith
       ]
       | inr h ↦ let e = count-over most bytes at n refl h in omega arith

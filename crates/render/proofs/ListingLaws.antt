@@ -57,7 +57,7 @@ module _ (rule bare out : List ℕ) (roomy : 8192 ≤ length out) where
   weaving-roomy = by checked refl
     where
       by : (a : Checked) → checked ≡ a
-        → (checked then question13 form32 rule bare out then passed lines) ≡ (checked then passed lines)
+          → (checked then question13 form32 rule bare out then passed lines) ≡ (checked then passed lines)
       by (passed u) e =
           then-passed checked (question13 form32 rule bare out then passed lines) e
           ∙ then-passed (question13 form32 rule bare out) (passed lines) (space e)

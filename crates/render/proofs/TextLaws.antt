@@ -28,7 +28,7 @@ digits-same zero b n ha hb = absurd (omega arith)
 digits-same (suc a) zero n ha hb = absurd (omega arith)
 digits-same (suc a) (suc b) n ha hb =
     elim (le-or-lt 10 n) [
-      inl h ↦ rw (le-ltb n 10 h) (ap (λ l. l ++ (digit (n % 10) ∷ [])) (digits-same a b (n / 10) (omega arith) (omega arith)))
+      | inl h ↦ rw (le-ltb n 10 h) (ap (λ l. l ++ (digit (n % 10) ∷ [])) (digits-same a b (n / 10) (omega arith) (omega arith)))
       | inr h ↦ rw (lt-ltb n 10 h)
     ]
 
@@ -47,7 +47,7 @@ length-more n h = ap length (decimal-more n h) ∙ length-append (decimal (n / 1
 pub decimal-some : (n : ℕ) → 0 < length (decimal n)
 decimal-some n =
     elim (le-or-lt 10 n) [
-      inl h ↦ let e = length-more n h in omega arith
+      | inl h ↦ let e = length-more n h in omega arith
       | inr h ↦ let e = ap length (decimal-small n h) in omega arith
     ]
 
@@ -56,11 +56,11 @@ pub decimal-short : (d n : ℕ) → n < 10 ^ suc d → length (decimal n) ≤ su
 decimal-short zero n h = let e = ap length (decimal-small n h) in omega arith
 decimal-short (suc d) n h =
     elim (le-or-lt 10 n) [
-      inl l ↦
-        let p = pow-suc 10 (suc d) in
-        let r = decimal-short d (n / 10) (omega arith) in
-        let e = length-more n l in
-        omega arith
+      | inl l ↦
+          let p = pow-suc 10 (suc d) in
+          let r = decimal-short d (n / 10) (omega arith) in
+          let e = length-more n l in
+          omega arith
       | inr s ↦ let e = ap length (decimal-small n s) in omega arith
     ]
 
@@ -142,6 +142,6 @@ module _ (words : List ℕ) (at : ℕ) (o : List ℕ) where
       let e : suc l ≡ l + 1 = omega arith in
       let j : 30 * l + 30 ≡ 30 * (l + 1) = omega arith in
       let f : Filled (30 * l + 30) (linesText words (suc l)) at end2 o o2 =
-        filled-then (omega arith) x (record { added = y; short = line-short l (getD words (8 * l) 0) h }) in
+      filled-then (omega arith) x (record { added = y; short = line-short l (getD words (8 * l) 0) h }) in
       subst (λ n. Filled n (linesText words (l + 1)) at end2 o o2) j
       (subst (λ n. Filled (30 * l + 30) (linesText words n) at end2 o o2) e f)

@@ -44,15 +44,14 @@ loop-less c = search needs
 loop-again : tie.Need-loop-again Inv-loop μ-loop
 loop-again c =
     let loop = c .before .before .loop in
-    let args = c .before .before .before .before .before .args in
-    (
+    let args = c .before .before .before .before .before .args in (
       search needs,
       search needs,
       search needs,
       search needs,
       search needs,
       words-next (args .bytes .now) (args .at) (args .out .now) (loop .i) (c .word-at .result) (loop .out) (omega arith) (c .word-at .ensures)
-      (loop .inv .5),
+          (loop .inv .5),
     )
 
 same-length : tie.Need-same-length Inv-loop μ-loop

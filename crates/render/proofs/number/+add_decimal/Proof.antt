@@ -65,7 +65,7 @@ add-decimal-add-result-2 t c =
     let rest = c .before .before .before in
     let start = rest .before .before .before .before in
     let room = last-room (start .args .n) (start .args .at) (start .args .out .now) (rest .before .before .if1 .left) (start .pre .1)
-      (rest .add-decimal .result) (rest .add-decimal .last .1 .1 .0) (rest .add-decimal .kept .1 .1 .0) (rest .add-decimal .ensures) in
+    (rest .add-decimal .result) (rest .add-decimal .last .1 .1 .0) (rest .add-decimal .kept .1 .1 .0) (rest .add-decimal .ensures) in
     search needs
 
 add-decimal-same-length-2 : (t : ℕ) → add-decimal-lts.Need-same-length-2 (claims t) (add-decimal-at t) add-decimal.Post

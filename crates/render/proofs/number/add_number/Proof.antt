@@ -25,7 +25,7 @@ add-result c =
     let digits = c .before .before in
     let start = digits .before .before .before in
     let room = end-room (start .args .n) (start .args .end) (start .args .at) (start .args .out .now) (start .pre)
-      (digits .add-decimal .result) (digits .add-decimal .last .1 .1 .0) (digits .add-decimal .kept .1 .1 .0) (digits .add-decimal .ensures) in
+    (digits .add-decimal .result) (digits .add-decimal .last .1 .1 .0) (digits .add-decimal .kept .1 .1 .0) (digits .add-decimal .ensures) in
     search needs
 
 same-length : tie.Need-same-length

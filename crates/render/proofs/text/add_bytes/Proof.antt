@@ -39,13 +39,12 @@ loop-again : tie.Need-loop-again Inv-loop μ-loop
 loop-again c =
     let at-loop = c .before .before in
     let args = at-loop .before .args in
-    let inv = at-loop .loop .inv in
-    (
+    let inv = at-loop .loop .inv in (
       search needs,
       search needs,
       search needs,
       bytes-next (args .text .now) (args .at) (args .out .now) (inv .0) (at-loop .loop .i) (at-loop .loop .out)
-      (c .before .loop-test .taken) (inv .3),
+          (c .before .loop-test .taken) (inv .3),
     )
 
 add-result : tie.Need-add-result Inv-loop μ-loop

@@ -46,15 +46,14 @@ loop-again : tie.Need-loop-again Inv-loop μ-loop
 loop-again c =
     let line = c .before .before in
     let loop = line .before .before .before .before .loop in
-    let args = line .before .before .before .before .before .before .before .args in
-    (
+    let args = line .before .before .before .before .before .before .before .args in (
       search needs,
       search needs,
       search needs,
       search needs,
       line .add-line .kept .1 .1 .1 .0 ∙ loop .inv .4,
       lines-next (args .words .now) (args .at) (args .out .now) (loop .l) (loop .end) (line .add-line .result) (loop .out)
-      (line .add-line .last .1 .1 .1 .0) (omega arith) (omega arith) (loop .inv .5) (line .add-line .ensures),
+          (line .add-line .last .1 .1 .1 .0) (omega arith) (omega arith) (loop .inv .5) (line .add-line .ensures),
     )
 
 same-length : tie.Need-same-length Inv-loop μ-loop
