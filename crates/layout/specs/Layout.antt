@@ -4,12 +4,10 @@ use mathlib.Core.List.{List}
 use Prim.Native.Nat.{ℕ, _*_, _<_}
 use lib.ListN.{length, getD}
 use Rattle.spec.specs.Questions.{passed}
-use Rattle.spec.specs.Rule.{form32, Node, falseNode, testNode, impliesNode, sinceNode, weakPreviousNode, Table, tableOf, checkRule}
+use Rattle.spec.specs.Rule.{form32, Node, falseNode, testNode, impliesNode, sinceNode, weakPreviousNode, checkRule}
 use Rattle.spec.specs.Script.{bareCode}
 use Rattle.spec.specs.Weaver.{decideSize, blockSize, startOf, checkWeaving}
-
-abbrev pub tableIn : (rule : List ℕ) → Table
-tableIn rule = tableOf form32 rule
+pub use Rattle.rule.specs.Nodes.{tableIn}
 
 -- the rule is accepted, and `sizes` has how many lines deciding each node takes
 abbrev pub Sized : (rule sizes : List ℕ) → Type 0
