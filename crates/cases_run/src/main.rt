@@ -3,19 +3,21 @@
 // a number a word; kind 2 about the rule and a script; kinds 3 and 4 run the script, kind 6 weaves it first, and they go on as `runs` says;
 // kind 5 weaves the script, and goes on with the length of the lent output. A 0 in place of a kind is skipped. A count out of the buffers'
 // range ends a block.
+use crate::loading::load_numbers;
+use crate::loading::load_words;
+use crate::printing::print_answer;
+use crate::printing::print_number;
+use crate::printing::print_numbers;
+use crate::printing::print_refused;
+use crate::printing::say;
 use crate::runs::answer_machine;
 use crate::weaving::answer_weaving;
-use requests::load_numbers;
-use requests::load_words;
-use requests::print_answer;
-use requests::print_number;
-use requests::print_numbers;
-use requests::print_refused;
-use requests::say;
 use rule::answer::Verdict;
 use words::word_at;
 ghost use Prim.Native.Nat.{_<_, _≤_};
 
+mod loading;
+mod printing;
 mod runs;
 mod weaving;
 

@@ -1,14 +1,14 @@
 // Requests of kinds 3, 4 and 6: a script is run with a budget, or step by step; a bare script is woven, and what was woven is run.
+use crate::loading::load_numbers;
+use crate::printing::print_answer;
+use crate::printing::print_named;
+use crate::printing::print_number;
+use crate::printing::print_numbers;
+use crate::printing::print_refused;
+use crate::printing::say;
 use checker::check_script;
 use machine::Machine;
 use machine::answer::Stop;
-use requests::load_numbers;
-use requests::print_answer;
-use requests::print_named;
-use requests::print_number;
-use requests::print_numbers;
-use requests::print_refused;
-use requests::say;
 use rule::node::past_at;
 use sets::has;
 use weaver::Woven;

@@ -1,7 +1,7 @@
 // Requests of kind 5: a bare script is woven into a lent output.
-use requests::print_named;
-use requests::print_refused;
-use requests::print_words;
+use crate::printing::print_named;
+use crate::printing::print_refused;
+use crate::printing::print_words;
 use weaver::Woven;
 ghost use Prim.Native.Nat.{_≤_};
 

@@ -1,9 +1,9 @@
--- `requests::print_numbers` is safe and ends; the measure is what is left to go through. Assumes nothing.
+-- `cases_run::printing::print_numbers` is safe and ends; the measure is what is left to go through. Assumes nothing.
 use borrow.Author.Needs.{needs}
 use Prim.Native.Nat.{_-_, _≤_}
 use lib.ListN.{length}
-use Rattle.requests.proofs.print_numbers.Statement.{statement}
-use Rattle.requests.proofs.print_numbers.Tie as tie
+use Rattle.cases_run.proofs.printing.print_numbers.Statement.{statement}
+use Rattle.cases_run.proofs.printing.print_numbers.Tie as tie
 
 abbrev Inv-loop : tie.InvT-loop
 Inv-loop name numbers i₀ t4 i = i ≤ length numbers

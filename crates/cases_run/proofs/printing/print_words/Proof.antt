@@ -1,9 +1,9 @@
--- `requests::print_words` is safe and ends; the measure is what is left to go through. Assumes nothing.
+-- `cases_run::printing::print_words` is safe and ends; the measure is what is left to go through. Assumes nothing.
 use borrow.Author.Needs.{needs}
 use Prim.Native.Nat.{_-_, _≤_}
 use lib.ListN.{length}
-use Rattle.requests.proofs.print_words.Statement.{statement}
-use Rattle.requests.proofs.print_words.Tie as tie
+use Rattle.cases_run.proofs.printing.print_words.Statement.{statement}
+use Rattle.cases_run.proofs.printing.print_words.Tie as tie
 
 abbrev Inv-loop : tie.InvT-loop
 Inv-loop name words i₀ t4 t5 i = i ≤ length words

@@ -1,12 +1,12 @@
--- `requests::load_numbers` is safe and ends; the measure is what is left to go through. Assumes nothing.
+-- `cases_run::loading::load_numbers` is safe and ends; the measure is what is left to go through. Assumes nothing.
 use mathlib.Core.Path.{ap}
 use borrow.Author.Needs.{needs}
 use Prim.Native.Nat.{_-_, _≤_}
 use mathlib.Core.Path.{_≡_, refl, _∙_}
 use mathlib.Core.Logic.{⊎-elim}
 use lib.ListN.{length, length-set}
-use Rattle.requests.proofs.load_numbers.Statement.{statement}
-use Rattle.requests.proofs.load_numbers.Tie as tie
+use Rattle.cases_run.proofs.loading.load_numbers.Statement.{statement}
+use Rattle.cases_run.proofs.loading.load_numbers.Tie as tie
 
 abbrev Inv-loop : tie.InvT-loop
 Inv-loop s at count out₀ i₀ out i = (at ≤ 1000000) × (count ≤ 1000000) × (i ≤ count) × (length out ≡ length out₀)
