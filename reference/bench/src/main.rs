@@ -1,104 +1,43 @@
-//! Times the proved code beside the twin, in one run: `cargo run --release -p bench`. Repeats are interleaved, so that both meet
-//! the same machine; the table has the best and the median of each and their ratios (proved / twin; below 1 the proved code is
-//! faster).
-mod twin;
+//! Times the proved code beside peers in plain Rust, in one run: `cargo run --release -p bench`.
+mod agree;
+mod histories;
+mod measure;
+mod peers;
 
 use compare::proved;
-use compare::requests::{request, Request};
-use reference::judge::{first_false_kept, first_priors, next_priors, values_now};
+use histories::{random_history, steady_history, R1, RULES};
+use measure::{measure, Row, Table};
+use peers::judge::{many_at_once, one_at_a_time};
 use reference::random::Rng;
 use reference::rule::check_rule;
-use std::cell::RefCell;
 use std::hint::black_box;
-use std::time::Instant;
 
-const REPEATS: usize = 61;
+const STATES: usize = 16_384;
 
-const R1: &[u32] = &[0x2200_0800, 0x2400_0800, 0x8000_0002];
-const R2: &[u32] = &[0x2200_0800, 0xa000_0000];
-const R3: &[u32] = &[
-    0x4719_4000, 0xa000_0000, 0x0000_0000, 0x6000_0044, 0x4719_4000, 0x0000_0000, 0x6000_010a, 0x2200_0800, 0x2400_0800,
-    0x8000_01d0, 0x6000_0192, 0x6000_00d4,
-];
-
-/// 32 nodes: twelve tests, one false, six implies, six sinces, seven weak previouses.
-fn r4() -> Vec<u32> {
-    let test = |kind: u32, register: u32, constant: u32| kind << 29 | register << 25 | constant << 11;
-    let two = |kind: u32, left: u32, right: u32| kind << 29 | left << 6 | right << 1;
-    let weak = |left: u32| 5 << 29 | left << 6;
-    vec![
-        test(1, 1, 1),   // 0
-        test(1, 2, 1),   // 1
-        two(4, 0, 1),    // 2: since
-        weak(2),         // 3
-        test(2, 3, 9),   // 4
-        test(1, 4, 1),   // 5
-        two(4, 4, 5),    // 6: since
-        weak(6),         // 7
-        two(3, 3, 7),    // 8
-        test(2, 5, 500), // 9
-        weak(9),         // 10
-        test(1, 6, 2),   // 11
-        two(4, 10, 11),  // 12: since
-        two(3, 8, 12),   // 13
-        test(2, 7, 3),   // 14
-        test(1, 8, 0),   // 15
-        two(4, 14, 15),  // 16: since
-        weak(16),        // 17
-        weak(17),        // 18
-        two(3, 13, 18),  // 19
-        test(1, 9, 4),   // 20
-        test(2, 10, 7),  // 21
-        two(4, 20, 21),  // 22: since
-        weak(22),        // 23
-        two(3, 19, 23),  // 24
-        test(2, 11, 40), // 25
-        test(1, 12, 1),  // 26
-        two(4, 25, 26),  // 27: since
-        weak(27),        // 28
-        two(3, 24, 28),  // 29
-        0,               // 30: false
-        two(3, 30, 29),  // 31: true, whatever 29 is
-    ]
-}
-
-/// A history at every state of which the rule is true, so that the judge reads all of it. A state is taken where some next one
-/// keeps the rule as well.
-fn long_history(rule: &[u32], states: usize) -> Vec<u16> {
-    let rule = check_rule(rule).expect("a rule");
-    let g = RefCell::new(Rng(4));
-    let constants: Vec<u16> = rule.nodes.iter().flat_map(|d| [d.constant, d.constant.saturating_sub(1)]).chain([0, 1, 2]).collect();
-    // a state at which the rule is true, and the priors after it
-    let found = |g: &mut Rng, prior: &[bool], tries: usize| {
-        (0..tries).find_map(|_| {
-            let state: [u16; 16] = std::array::from_fn(|_| g.pick(&constants));
-            let values = values_now(&rule, prior, &state);
-            values[rule.last()].then(|| (state, next_priors(&rule, &values)))
-        })
-    };
-    let mut prior = first_priors(&rule);
-    let mut words = vec![];
-    for _ in 0..states {
-        let (state, next) = (0..1000)
-            .filter_map(|_| found(&mut g.borrow_mut(), &prior, 1000))
-            .find(|(_, next)| found(&mut g.borrow_mut(), next, 1000).is_some())
-            .expect("a state at which the rule is true");
-        prior = next;
-        words.extend(state);
-    }
-    words
-}
-
-/// The same with one state over and over: every branch of a judge goes the way it went before.
-fn steady_history(rule: &[u32], states: usize) -> Vec<u16> {
-    let rule = check_rule(rule).expect("a rule");
-    let mut g = Rng(5);
-    loop {
-        let state: [u16; 16] = std::array::from_fn(|_| g.pick(&[0, 1, 2]));
-        if first_false_kept(&rule, &vec![state; 100]) == 100 {
-            return state.repeat(states);
+fn judge_rows() -> Vec<Row> {
+    let mut rows = vec![];
+    for (name, rule) in RULES {
+        let random = (random_history(rule, STATES), [0, 1, STATES as u64 - 1, 0], Some(STATES - 1));
+        let steady = (steady_history(rule, STATES), [0, 0, 0, STATES as u64], None);
+        for (kind, (history, numbers, index)) in [("random", random), ("steady", steady)] {
+            let mut n = [0; 4];
+            assert_eq!((proved::judge(rule, &history, &mut n), n), (0, numbers));
+            let mut calls: Vec<Box<dyn FnMut()>> = vec![];
+            let h = history.clone();
+            calls.push(Box::new(move || {
+                black_box(proved::judge(black_box(rule), black_box(&h), &mut n));
+            }));
+            for judge in [one_at_a_time, many_at_once] {
+                assert!(judge(rule, &history).is_ok_and(|i| i == index));
+                let h = history.clone();
+                calls.push(Box::new(move || {
+                    black_box(judge(black_box(rule), black_box(&h)).is_ok());
+                }));
+            }
+            rows.push(Row::new(format!("judge {name}, {} nodes, {STATES} {kind} states", rule.len()), "state", STATES, calls));
         }
     }
+    rows
 }
 
 /// A bare script that weaves to so many lines for a rule whose block has `block` lines: register writes with a present after every
@@ -122,215 +61,155 @@ fn bare_for(block: usize, lines: usize) -> Vec<u32> {
     words
 }
 
-struct Row {
-    name: String,
-    unit: &'static str,
-    proved: Vec<f64>,
-    twin: Vec<f64>,
-}
-
-/// Times both, interleaved; `work` is how many units one call does.
-fn row(name: &str, unit: &'static str, work: f64, mut proved: impl FnMut(), mut twin: impl FnMut()) -> Row {
-    let time = |call: &mut dyn FnMut(), calls: usize| {
-        let start = Instant::now();
-        for _ in 0..calls {
-            call();
-        }
-        start.elapsed().as_secs_f64() * 1e9 / calls as f64 / work
-    };
-    // as many calls as take some hundred microseconds
-    let once = time(&mut proved, 3) * work;
-    let calls = ((3e5 / once) as usize).clamp(1, 100_000);
-    let mut r = Row { name: name.to_string(), unit, proved: vec![], twin: vec![] };
-    for i in 0..REPEATS {
-        if i % 2 == 0 {
-            r.proved.push(time(&mut proved, calls));
-            r.twin.push(time(&mut twin, calls));
-        } else {
-            r.twin.push(time(&mut twin, calls));
-            r.proved.push(time(&mut proved, calls));
-        }
-    }
-    r.proved.sort_by(f64::total_cmp);
-    r.twin.sort_by(f64::total_cmp);
-    r
-}
-
-/// The twin's answers to random requests are the proved code's: what is timed is the same work.
-fn agree() {
-    let numbers = |r: Result<(), twin::No>| r.map_or_else(|no| (no.number, no.place as u64), |()| (0, 0));
-    for n in 0..20_000 {
-        match request(5, n) {
-            Request::Script { rule, script, .. } => {
-                let mut p = [0];
-                let result = proved::script(&rule, &script, &mut p);
-                assert_eq!((result, p[0]), numbers(twin::check_script(&rule, &script).map(|_| ())));
-            }
-            Request::Weave { rule, bare, mut out, .. } => {
-                let mut p = [0; 2];
-                let mut out_twin = out.clone();
-                let result = proved::weave(&rule, &bare, &mut out, &mut p);
-                let mut lines = 0;
-                let t = numbers(twin::weave(&rule, &bare, &mut out_twin).map(|n| lines = n as u64));
-                assert!((result, p[0]) == t && p[1] == lines && out == out_twin);
-            }
-            Request::Judge { rule, history, .. } => {
-                let mut p = [0; 4];
-                let result = proved::judge(&rule, &history, &mut p);
-                let mut index = None;
-                let t = numbers(twin::judge(&rule, &history).map(|i| index = i));
-                assert!((result, p[0]) == t && index == (p[1] == 1).then_some(p[2] as usize));
-            }
-            Request::Run { rule, script, inputs, budget, mut history, .. } => {
-                let mut p = [0; 22];
-                let mut history_twin = history.clone();
-                let result = proved::run(&rule, &script, &inputs, budget, &mut history, &mut p);
-                let mut q = [0; 22];
-                let t = numbers(twin::run(&rule, &script, &inputs, budget, &mut history_twin).map(|t| {
-                    q[1..6].copy_from_slice(&[t.stop, t.line as u64, t.steps, t.presentations as u64, t.read as u64]);
-                    q[6..].copy_from_slice(&t.registers.map(u64::from));
-                }));
-                q[0] = t.1;
-                assert!(result == t.0 && p == q && history == history_twin);
-            }
-            _ => {}
-        }
-    }
-}
-
-fn main() {
-    agree();
-    let r4 = r4();
-    let rules = [("R1", R1.to_vec()), ("R2", R2.to_vec()), ("R3", R3.to_vec()), ("R4", r4)];
+fn script_rows() -> Vec<Row> {
     let mut rows = vec![];
-    for (name, rule) in &rules {
-        for (kind, history) in [("changing", long_history(rule, 16_384)), ("steady", steady_history(rule, 16_384))] {
-            let mut numbers = [0; 4];
-            assert_eq!((proved::judge(rule, &history, &mut numbers), numbers), (0, [0, 0, 0, 16_384]));
-            assert!(matches!(twin::judge(rule, &history), Ok(None)));
-            rows.push(row(
-                &format!("judge {name}, {} nodes, 16,384 {kind} states", rule.len()),
-                "state",
-                16_384.0,
-                || {
-                    black_box(proved::judge(black_box(rule), black_box(&history), &mut numbers));
-                },
-                || {
-                    black_box(twin::judge(black_box(rule), black_box(&history)).is_ok());
-                },
-            ));
-        }
-    }
-    for (name, rule) in [&rules[0], &rules[3]] {
+    for (name, rule) in [RULES[0], RULES[3]] {
+        let nodes = rule.len();
+        let mut n = [0; 1];
+        rows.push(Row::new(
+            format!("check_rule {name}, {nodes} nodes"),
+            "rule",
+            1,
+            vec![
+                Box::new(move || {
+                    black_box(proved::rule(black_box(rule), &mut n));
+                }),
+                Box::new(move || {
+                    black_box(peers::rule::Rule::read(black_box(rule)).is_ok());
+                }),
+            ],
+        ));
         let block = check_rule(rule).expect("a rule").block_lines();
-        for lines in [16, 128, 1024] {
-            if lines < block + 3 {
+        for lines in [16, 128, 256, 1024] {
+            if lines < block + 3 || (lines == 256 && block < 64) {
                 continue;
             }
             let bare = bare_for(block, lines);
             let presents = bare.iter().filter(|&&w| w >> 28 == 8).count();
-            let mut numbers = [0; 2];
-            let (mut out, mut out_twin) = (vec![0; 8 * lines], vec![0; 8 * lines]);
-            assert_eq!((proved::weave(rule, &bare, &mut out, &mut numbers), numbers), (0, [0, lines as u64]));
-            assert!(twin::weave(rule, &bare, &mut out_twin).is_ok_and(|n| n == lines) && out == out_twin);
-            assert_eq!(proved::script(rule, &out, &mut numbers), 0);
-            assert!(twin::check_script(rule, &out).is_ok());
-            let script = out.clone();
-            rows.push(row(
-                &format!("check_script {name}, {} nodes, {lines} lines", rule.len()),
+            let mut n = [0; 2];
+            let (mut out, mut peer_out) = (vec![0; 8 * lines], vec![0; 8 * lines]);
+            assert_eq!((proved::weave(rule, &bare, &mut out, &mut n), n), (0, [0, lines as u64]));
+            assert!(peers::weave::weave(rule, &bare, &mut peer_out).is_ok_and(|n| n == lines) && out == peer_out);
+            assert_eq!(proved::script(rule, &out, &mut n), 0);
+            assert!(peers::script::check_script(rule, &out).is_ok());
+            let (script, peer_script, peer_bare) = (out.clone(), out.clone(), bare.clone());
+            rows.push(Row::new(
+                format!("check_script {name}, {nodes} nodes, {lines} lines"),
                 "line",
-                lines as f64,
-                || {
-                    black_box(proved::script(black_box(rule), black_box(&script), &mut numbers));
-                },
-                || {
-                    black_box(twin::check_script(black_box(rule), black_box(&script)).is_ok());
-                },
+                lines,
+                vec![
+                    Box::new(move || {
+                        black_box(proved::script(black_box(rule), black_box(&script), &mut n));
+                    }),
+                    Box::new(move || {
+                        black_box(peers::script::check_script(black_box(rule), black_box(&peer_script)).is_ok());
+                    }),
+                ],
             ));
-            rows.push(row(
-                &format!("weave {name}, {} nodes, {lines} lines, {presents} blocks", rule.len()),
+            rows.push(Row::new(
+                format!("weave {name}, {nodes} nodes, {lines} lines, {presents} blocks"),
                 "line",
-                lines as f64,
-                || {
-                    black_box(proved::weave(black_box(rule), black_box(&bare), &mut out, &mut numbers));
-                },
-                || {
-                    black_box(twin::weave(black_box(rule), black_box(&bare), &mut out_twin).is_ok());
-                },
+                lines,
+                vec![
+                    Box::new(move || {
+                        black_box(proved::weave(black_box(rule), black_box(&bare), &mut out, &mut n));
+                    }),
+                    Box::new(move || {
+                        black_box(peers::weave::weave(black_box(rule), black_box(&peer_bare), &mut peer_out).is_ok());
+                    }),
+                ],
             ));
         }
     }
-    run_rows(&mut rows);
-    println!("| | unit | proved best | median | twin best | median | ratio of bests | of medians |");
-    println!("|---|---|---|---|---|---|---|---|");
-    for r in &rows {
-        let (p, t) = ((r.proved[0], r.proved[REPEATS / 2]), (r.twin[0], r.twin[REPEATS / 2]));
-        println!(
-            "| {} | ns/{} | {:.2} | {:.2} | {:.2} | {:.2} | {:.2} | {:.2} |",
-            r.name, r.unit, p.0, p.1, t.0, t.1, p.0 / t.0, p.1 / t.1
-        );
-    }
-    println!("\nOne step by guard_step, with the state in lent memory: {:.1} ns (best of {REPEATS})", step_alone());
-    println!("\nSteps a second, best of the run:");
-    for r in rows.iter().filter(|r| r.unit == "step") {
-        println!("{}: proved {:.0} million, twin {:.0} million", r.name, 1e3 / r.proved[0], 1e3 / r.twin[0]);
-    }
+    rows
 }
 
-/// The time of one step that is asked for by itself, in nanoseconds.
-fn step_alone() -> f64 {
-    let bare = [4 << 28 | 1 << 24, 4 << 28 | 2 << 24, 8 << 28, 7 << 28];
-    let mut script = vec![0; 8 * 16];
-    assert_eq!(proved::weave(R1, &bare, &mut script, &mut [0; 2]), 0);
-    let inputs = vec![1; 40_000];
-    let mut history = vec![0; 16 * 20_000];
-    let mut best = f64::MAX;
-    for _ in 0..REPEATS {
-        let mut state = [0; 21];
-        proved::fresh(R1, &mut state);
-        let start = Instant::now();
-        for _ in 0..20_000 {
-            black_box(proved::step(R1, &script, &inputs, &mut history, &mut state));
-        }
-        best = best.min(start.elapsed().as_secs_f64() * 1e9 / 20_000.0);
-    }
-    best
+fn instruction(op: u32, r: u32, c: u32, target: u32) -> u32 {
+    op << 28 | r << 24 | c << 10 | target
+}
+
+/// Two inputs, and a presentation where the rule allows it.
+fn tone() -> Vec<u32> {
+    vec![instruction(4, 1, 0, 0), instruction(4, 2, 0, 0), instruction(8, 0, 0, 0), instruction(7, 0, 0, 0)]
+}
+
+fn woven(rule: &[u32], bare: &[u32]) -> Vec<u32> {
+    let mut out = vec![0; 8 * 1024];
+    let mut n = [0; 2];
+    assert_eq!(proved::weave(rule, bare, &mut out, &mut n), 0);
+    out.truncate(8 * n[1] as usize);
+    out
 }
 
 /// Runs long enough that the questions before them take no time that counts.
-fn run_rows(rows: &mut Vec<Row>) {
-    let i = |op: u32, r: u32, c: u32, t: u32| op << 28 | r << 24 | c << 10 | t;
+fn run_rows() -> Vec<Row> {
+    const BUDGET: u64 = 1_000_000;
+    let i = instruction;
     // counts, with tests and copies, and presents nothing
     let count = vec![i(3, 1, 1, 0), i(5, 1, 0, 4), i(6, 2, 7, 0), i(7, 0, 0, 0), i(3, 2, 1, 0), i(2, 3, 2, 0), i(7, 0, 0, 0)];
     // presents all the time: register 1 = 1 since register 2 = 1
     let present = vec![i(1, 1, 1, 0), i(1, 2, 1, 0), i(8, 0, 0, 0), i(1, 2, 0, 0), i(8, 0, 0, 0), i(7, 0, 0, 1)];
-    // reads two inputs and presents where it may
-    let tone = vec![i(4, 1, 0, 0), i(4, 2, 0, 0), i(8, 0, 0, 0), i(7, 0, 0, 0)];
     let mut g = Rng(9);
     let inputs: Vec<u16> = (0..200_000).map(|_| g.below(2) as u16).collect();
-    const BUDGET: u64 = 1_000_000;
-    for (name, bare) in [("counts", count), ("presents", present), ("reads and presents", tone)] {
-        let mut out = vec![0; 8 * 1024];
-        let mut numbers = [0; 22];
-        assert_eq!(proved::weave(R1, &bare, &mut out, &mut numbers), 0);
-        out.truncate(8 * numbers[1] as usize);
+    let mut rows = vec![];
+    for (name, bare) in [("counts", count), ("presents", present), ("reads and presents", tone())] {
+        let script = woven(R1, &bare);
+        let mut n = [0; 22];
         let mut history = vec![0; 16 * 200_000];
-        let mut history_twin = history.clone();
-        assert_eq!(proved::run(R1, &out, &inputs, BUDGET, &mut history, &mut numbers), 0);
-        let t = twin::run(R1, &out, &inputs, BUDGET, &mut history_twin).ok().expect("an accepted script");
-        assert_eq!(numbers[1..6], [t.stop, t.line as u64, t.steps, t.presentations as u64, t.read as u64]);
-        assert!(numbers[6..] == t.registers.map(u64::from) && history == history_twin);
-        let steps = numbers[3];
-        rows.push(row(
-            &format!("run that {name}, {steps} steps"),
+        let mut peer_history = history.clone();
+        assert_eq!(proved::run(R1, &script, &inputs, BUDGET, &mut history, &mut n), 0);
+        let t = peers::machine::run(R1, &script, &inputs, BUDGET, &mut peer_history).ok().expect("an accepted script");
+        assert_eq!(n[1..6], [t.stop, t.line as u64, t.steps, t.presentations as u64, t.read as u64]);
+        assert!(n[6..] == t.registers.map(u64::from) && history == peer_history);
+        let steps = n[3] as usize;
+        let (peer_script, inputs, peer_inputs) = (script.clone(), inputs.clone(), inputs.clone());
+        rows.push(Row::new(
+            format!("run that {name}, {steps} steps"),
             "step",
-            steps as f64,
-            || {
-                black_box(proved::run(R1, black_box(&out), black_box(&inputs), BUDGET, &mut history, &mut numbers));
-            },
-            || {
-                black_box(twin::run(R1, black_box(&out), black_box(&inputs), BUDGET, &mut history_twin).is_ok());
-            },
+            steps,
+            vec![
+                Box::new(move || {
+                    black_box(proved::run(R1, black_box(&script), black_box(&inputs), BUDGET, &mut history, &mut n));
+                }),
+                Box::new(move || {
+                    let peer = peers::machine::run(R1, black_box(&peer_script), black_box(&peer_inputs), BUDGET, &mut peer_history);
+                    black_box(peer.is_ok());
+                }),
+            ],
         ));
     }
+    rows
+}
+
+/// Steps asked for one by one, the state in lent memory.
+fn step_row() -> Row {
+    const STEPS: usize = 20_000;
+    type Step = fn(&[u32], &[u32], &[u16], &mut [u16], &mut [u64]) -> u32;
+    let calls = [proved::step as Step, peers::machine::step]
+        .into_iter()
+        .map(|step| {
+            let script = woven(R1, &tone());
+            let inputs = vec![1; 2 * STEPS];
+            let mut history = vec![0; 16 * STEPS];
+            Box::new(move || {
+                let mut state = [0; 21];
+                proved::fresh(R1, &mut state);
+                for _ in 0..STEPS {
+                    black_box(step(R1, &script, &inputs, &mut history, &mut state));
+                }
+            }) as Box<dyn FnMut()>
+        })
+        .collect();
+    Row::new(format!("step that reads and presents, {STEPS} calls"), "step", STEPS, calls)
+}
+
+fn main() {
+    agree::agree(20_000);
+    let mut rows = script_rows();
+    rows.extend(run_rows());
+    rows.push(step_row());
+    let mut tables =
+        [Table { peers: &["one at a time", "64 at once"], rows: judge_rows() }, Table { peers: &["peer"], rows }];
+    measure(&mut tables);
+    tables.iter().for_each(Table::print);
 }

@@ -1,0 +1,81 @@
+//! The peers' answers to random requests are the proved code's: what is timed is the same work.
+use crate::peers::judge::{many_at_once, one_at_a_time};
+use crate::peers::machine::{run, step};
+use crate::peers::rule::Rule;
+use crate::peers::script::{check_code, check_script};
+use crate::peers::weave::weave;
+use crate::peers::No;
+use compare::proved;
+use compare::requests::{request, Request};
+
+fn numbers<X>(answer: Result<X, No>) -> (u32, u64) {
+    answer.map_or_else(|no| (no.number, no.place as u64), |_| (0, 0))
+}
+
+fn agree_on(request: Request) {
+    match request {
+        Request::Rule { rule, .. } => {
+            let mut p = [0];
+            assert_eq!((proved::rule(&rule, &mut p), p[0]), numbers(Rule::read(&rule)));
+        }
+        Request::Bare { rule, script, .. } => {
+            let mut p = [0];
+            let peer = Rule::read(&rule).and_then(|r| check_code(&r, &script, 1, 8));
+            assert_eq!((proved::bare(&rule, &script, &mut p), p[0]), numbers(peer));
+        }
+        Request::Script { rule, script, .. } => {
+            let mut p = [0];
+            assert_eq!((proved::script(&rule, &script, &mut p), p[0]), numbers(check_script(&rule, &script)));
+        }
+        Request::Weave { rule, bare, mut out, .. } => {
+            let mut p = [0; 2];
+            let mut peer_out = out.clone();
+            let result = proved::weave(&rule, &bare, &mut out, &mut p);
+            let peer = weave(&rule, &bare, &mut peer_out);
+            assert_eq!(p[1], *peer.as_ref().unwrap_or(&0) as u64);
+            assert!((result, p[0]) == numbers(peer) && out == peer_out);
+        }
+        Request::Judge { rule, history, .. } => {
+            let mut p = [0; 4];
+            let result = proved::judge(&rule, &history, &mut p);
+            for judge in [one_at_a_time, many_at_once] {
+                let peer = judge(&rule, &history);
+                let index = peer.as_ref().map_or(None, |&i| i);
+                assert_eq!(index, (p[1] == 1).then_some(p[2] as usize));
+                assert_eq!((result, p[0]), numbers(peer));
+            }
+        }
+        Request::Run { rule, script, inputs, budget, mut history, .. } => {
+            let mut p = [0; 22];
+            let mut peer_history = history.clone();
+            let result = proved::run(&rule, &script, &inputs, budget, &mut history, &mut p);
+            let peer = run(&rule, &script, &inputs, budget, &mut peer_history);
+            let mut q = [0; 22];
+            if let Ok(t) = &peer {
+                q[1..6].copy_from_slice(&[t.stop, t.line as u64, t.steps, t.presentations as u64, t.read as u64]);
+                q[6..].copy_from_slice(&t.registers.map(u64::from));
+            }
+            let (number, place) = numbers(peer);
+            q[0] = place;
+            assert!(result == number && p == q && history == peer_history);
+        }
+        Request::Steps { rule, script, inputs, mut history, mut state, count } => {
+            let (mut peer_history, mut peer_state) = (history.clone(), state.clone());
+            for _ in 0..count {
+                let result = proved::step(&rule, &script, &inputs, &mut history, &mut state);
+                assert_eq!(result, step(&rule, &script, &inputs, &mut peer_history, &mut peer_state));
+                assert!(state == peer_state && history == peer_history);
+            }
+        }
+        Request::Fresh { .. } => {}
+    }
+}
+
+pub fn agree(requests: u64) {
+    (0..requests).for_each(|n| agree_on(request(5, n)));
+}
+
+#[test]
+fn peers_agree() {
+    agree(100_000);
+}

@@ -1,0 +1,74 @@
+//! The rules and histories that the judges are timed on.
+use reference::judge::{first_false_kept, first_priors, next_priors, values_now};
+use reference::random::Rng;
+use reference::rule::{check_rule, Rule};
+use reference::State;
+
+pub const R1: &[u32] = &[0x2200_0800, 0x2400_0800, 0x8000_0002];
+pub const R2: &[u32] = &[0x2200_0800, 0xa000_0000];
+pub const R3: &[u32] = &[
+    0x4719_4000, 0xa000_0000, 0x0000_0000, 0x6000_0044, 0x4719_4000, 0x0000_0000, 0x6000_010a, 0x2200_0800, 0x2400_0800,
+    0x8000_01d0, 0x6000_0192, 0x6000_00d4,
+];
+/// 32 nodes, past operators four deep.
+pub const R4: &[u32] = &[
+    0x2200_0800, 0x4719_4000, 0xa000_0040, 0x6000_0004, 0x48fa_0000, 0x2400_0800, 0x8000_010a, 0x8000_00cc, 0x2a00_1000,
+    0x0000_0000, 0x6000_0212, 0x2c00_1800, 0xa000_02c0, 0xa000_0300, 0x8000_029a, 0xa000_0380, 0x4f77_0000, 0x3000_0800,
+    0xa000_0440, 0x520f_a000, 0xa000_04c0, 0x6000_04a8, 0x8000_042a, 0x3400_0000, 0x567d_0000, 0x8000_05f0, 0x5803_2000,
+    0xa000_0680, 0x6000_0676, 0x8000_05b8, 0x6000_03fa, 0x6000_01fc,
+];
+pub const RULES: [(&str, &[u32]); 4] = [("R1", R1), ("R2", R2), ("R3", R3), ("R4", R4)];
+
+/// Numbers about the constants of a register's tests, so that each test is true about half of the time.
+fn random_state(g: &mut Rng, rule: &Rule) -> State {
+    std::array::from_fn(|register| {
+        let tests = rule.nodes.iter().filter(|d| d.is_test() && d.register as usize == register);
+        let about: Vec<u16> = tests.flat_map(|d| [d.constant.saturating_sub(1), d.constant]).collect();
+        if about.is_empty() {
+            g.below(16_384) as u16
+        } else {
+            g.pick(&about)
+        }
+    })
+}
+
+/// A state at which the rule has this value, and the priors after it.
+fn found(g: &mut Rng, rule: &Rule, prior: &[bool], value: bool) -> Option<(State, Vec<bool>)> {
+    (0..200).find_map(|_| {
+        let state = random_state(g, rule);
+        let values = values_now(rule, prior, &state);
+        (values[rule.last()] == value).then(|| (state, next_priors(rule, &values)))
+    })
+}
+
+/// Random states at all of which but the last the rule is true. A state is taken where some next one goes on.
+pub fn random_history(words: &[u32], states: usize) -> Vec<u16> {
+    let rule = check_rule(words).expect("a rule");
+    let mut g = Rng(4);
+    let mut prior = first_priors(&rule);
+    let mut history = vec![];
+    for n in 0..states {
+        let wanted = |n: usize| n + 1 < states;
+        let (state, next) = (0..1000)
+            .filter_map(|_| found(&mut g, &rule, &prior, wanted(n)).map(|(s, p)| (s, found(&mut g, &rule, &p, wanted(n + 1)), p)))
+            .find(|(_, after, _)| n + 1 == states || after.is_some())
+            .map(|(s, _, p)| (s, p))
+            .expect("a state that goes on");
+        prior = next;
+        history.push(state);
+    }
+    assert_eq!(first_false_kept(&rule, &history), states - 1);
+    history.concat()
+}
+
+/// One state over and over, at which the rule stays true: every branch of a judge goes the way it went before.
+pub fn steady_history(words: &[u32], states: usize) -> Vec<u16> {
+    let rule = check_rule(words).expect("a rule");
+    let mut g = Rng(5);
+    loop {
+        let state = random_state(&mut g, &rule);
+        if first_false_kept(&rule, &vec![state; 100]) == 100 {
+            return state.repeat(states);
+        }
+    }
+}

@@ -1,0 +1,164 @@
+//! The run over decoded lines, and the single step over stored ones.
+use super::rule::{bit, SINCE, WEAK_PREVIOUS};
+use super::script::{check_script, is_allowed};
+use super::{numbers_small, No};
+
+#[derive(Clone, Copy, Default)]
+#[repr(align(8))]
+struct Line {
+    op: u8,
+    r: u8,
+    c: u16,
+    target: u16,
+}
+
+fn decode(w: u32) -> Line {
+    Line { op: (w >> 28) as u8, r: (w >> 24 & 15) as u8, c: (w >> 10 & 0x3fff) as u16, target: (w & 0x3ff) as u16 }
+}
+
+pub struct Ran {
+    pub stop: u64,
+    pub line: usize,
+    pub steps: u64,
+    pub presentations: usize,
+    pub read: usize,
+    pub registers: [u16; 16],
+}
+
+/// Questions 1 to 11, and 15 of the inputs, then the steps.
+pub fn run(words: &[u32], script: &[u32], inputs: &[u16], budget: u64, history: &mut [u16]) -> Result<Ran, No> {
+    let (rule, _) = check_script(words, script)?;
+    numbers_small(inputs)?;
+    let mut lines = [Line::default(); 1024];
+    for (line, stored) in lines.iter_mut().zip(script.chunks_exact(8)) {
+        *line = decode(stored[0]);
+    }
+    let mut r = [0u16; 16];
+    let (mut kept, mut work) = (rule.weak, 0u32);
+    let (mut line, mut read, mut presentations, mut steps) = (0, 0, 0, 0);
+    let stop = loop {
+        let l = lines[line & 1023];
+        if l.op == 0 {
+            break 1;
+        }
+        if steps == budget {
+            break 2;
+        }
+        let k = l.r as usize & 15;
+        let node = bit(l.c as usize);
+        // a jump for each way, so that the next line is guessed and not waited for
+        let goes = match l.op {
+            1 => {
+                r[k] = l.c;
+                false
+            }
+            2 => {
+                r[k] = r[l.c as usize & 15];
+                false
+            }
+            3 => {
+                r[k] = (r[k] + l.c) & 16_383;
+                false
+            }
+            4 => {
+                let Some(&x) = inputs.get(read) else { break 3 };
+                r[k] = x;
+                read += 1;
+                false
+            }
+            5 => r[k] == l.c,
+            6 => r[k] < l.c,
+            7 => true,
+            8 => {
+                let Some(place) = history[16 * presentations..].first_chunk_mut() else { break 4 };
+                *place = r;
+                presentations += 1;
+                false
+            }
+            9 => {
+                work = if l.r == 1 { work | node } else { work & !node };
+                false
+            }
+            10 => kept & node != 0,
+            11 => work & node != 0,
+            _ => {
+                kept = kept & !node | work & node;
+                false
+            }
+        };
+        steps += 1;
+        if goes {
+            line = l.target as usize;
+        } else {
+            line += 1;
+        }
+    };
+    Ok(Ran { stop, line, steps, presentations, read, registers: r })
+}
+
+/// One step of the machine in `state`, as `guard_step` makes it: 0, 98 or 99.
+pub fn step(rule: &[u32], script: &[u32], inputs: &[u16], history: &mut [u16], state: &mut [u64]) -> u32 {
+    let Some((counts, rest)) = state.split_first_chunk_mut::<5>() else { return 99 };
+    let Some(registers) = rest.first_chunk_mut::<16>() else { return 99 };
+    if registers.iter().fold(0, |a, &b| a | b) > 65_535 {
+        return 98;
+    }
+    let [line, presentations, read, kept, work] = counts;
+    let Some(stored) = usize::try_from(*line).ok().and_then(|i| script.chunks_exact(8).nth(i)) else { return 0 };
+    let word = stored[0];
+    let l = decode(word);
+    // question 6 looks at one node
+    let named = rule.get(l.c as usize).filter(|_| l.c < 32).map_or(0, |w| (w >> 29) as u8);
+    let past = if matches!(named, SINCE | WEAK_PREVIOUS) { bit(l.c as usize) } else { 0 };
+    if !is_allowed(past, 12, word) {
+        return 0;
+    }
+    let r = l.r as usize & 15;
+    let c = l.c as usize;
+    let node = 1 << (63 - (c & 31));
+    let target = l.target as u64;
+    let next = *line + 1;
+    *line = match l.op {
+        0 => return 0,
+        1 => {
+            registers[r] = l.c as u64;
+            next
+        }
+        2 => {
+            registers[r] = registers[c & 15];
+            next
+        }
+        3 => {
+            registers[r] = (registers[r] + l.c as u64) & 16_383;
+            next
+        }
+        4 => {
+            let Some(&x) = usize::try_from(*read).ok().and_then(|i| inputs.get(i)) else { return 0 };
+            registers[r] = x as u64;
+            *read += 1;
+            next
+        }
+        5 if registers[r] == l.c as u64 => target,
+        6 if registers[r] < l.c as u64 => target,
+        7 => target,
+        8 => {
+            let from = presentations.checked_mul(16).and_then(|i| usize::try_from(i).ok());
+            let Some(place) = from.and_then(|i| history.get_mut(i..)).and_then(|h| h.first_chunk_mut::<16>()) else { return 0 };
+            *place = registers.map(|x| x as u16);
+            *presentations += 1;
+            next
+        }
+        9 => {
+            *work = if r == 1 { *work | node } else { *work & !node };
+            next
+        }
+        10 if *kept & node != 0 => target,
+        11 if *work & node != 0 => target,
+        12 => {
+            *kept = *kept & !node | *work & node;
+            next
+        }
+        _ => next,
+    };
+    0
+}
