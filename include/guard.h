@@ -27,6 +27,11 @@
  * opcode 4 bits, r 4, c 14, target 10; opcodes 0 to 8. An annotated script has eight words a line: the instruction, opcodes 0 to
  * 12, and seven sets of facts in the order T, F, A, B, M, W, C, node 0 at the most significant bit. A history has 16 numbers for
  * each presentation, the registers at that time, each at most 16,383.
+ *
+ * STACK. A proof knows nothing of the stack, so what a call takes was measured: on a painted stack, with rules as deeply nested as
+ * question 4 allows, full scripts and random requests (reference/compare/tests/stack.rs, which also holds enum guard_stack to it).
+ * The numbers are for libguard.a, which is x86-64; another compiler's are its own. No call takes more for a longer input. Only
+ * guard_weave calls itself inside, once for each implies around a node, so it takes the most.
  */
 #ifndef GUARD_H
 #define GUARD_H
@@ -68,6 +73,19 @@ enum {
     GUARD_MOST_NODES = 32,
     GUARD_MOST_LINES = 1024,
     GUARD_LINE_WORDS = 8          /* words of an annotated line */
+};
+
+/* Bytes of stack that a call of each function takes at most, its return address included, rounded up to the next 128. What
+ * interrupts and signal handlers put on the same stack comes on top. */
+enum guard_stack {
+    GUARD_STACK_RULE = 128,
+    GUARD_STACK_BARE = 256,
+    GUARD_STACK_SCRIPT = 896,
+    GUARD_STACK_WEAVE = 5248,
+    GUARD_STACK_JUDGE = 256,
+    GUARD_STACK_RUN = 1024,
+    GUARD_STACK_FRESH = 128,
+    GUARD_STACK_STEP = 512
 };
 
 /* In the numbers of every function. */

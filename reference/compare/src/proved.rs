@@ -1,5 +1,5 @@
 //! The functions of `include/guard.h`, on slices.
-mod face {
+pub mod face {
     extern "C" {
         pub fn guard_rule(rule: *const u32, rule_length: usize, numbers: *mut u64, numbers_length: usize) -> u32;
         pub fn guard_bare(

@@ -1,0 +1,213 @@
+//! How much stack each function of `include/guard.h` takes: it is called on a painted stack, with rules of the deepest nesting, full
+//! scripts and random requests, and what was painted over is counted. The header says these numbers; they are not proved.
+use compare::proved::face;
+use compare::requests::{request, Request};
+use std::arch::asm;
+use std::collections::BTreeMap;
+use std::hint::black_box;
+
+const WORDS: usize = 2048;
+const REQUESTS: u64 = 40_000;
+
+#[repr(align(16))]
+struct Stack([u64; WORDS]);
+
+/// What word i is painted with: no two alike, and nothing that a program would write.
+fn paint(i: usize) -> u64 {
+    (i as u64 + 1).wrapping_mul(0x9e37_79b9_7f4a_7c15)
+}
+
+extern "C" fn enter<X: FnMut()>(work: *mut X) {
+    // Safety: `painted` hands over its own closure, which nothing else uses meanwhile.
+    unsafe { (*work)() }
+}
+
+/// Does the work on a stack of its own, and answers how many bytes of it were written.
+fn painted<X: FnMut()>(stack: &mut Stack, mut work: X) -> usize {
+    for (i, word) in stack.0.iter_mut().enumerate() {
+        *word = paint(i);
+    }
+    let top = stack.0.as_mut_ptr_range().end;
+    // Safety: r12 keeps the old stack pointer over the call, and the work stays within the stack: see the assertion.
+    unsafe {
+        asm!(
+            "xchg rsp, r12",
+            "call {enter}",
+            "mov rsp, r12",
+            enter = in(reg) enter::<X> as extern "C" fn(*mut X),
+            in("rdi") &mut work,
+            inout("r12") top => _,
+            clobber_abi("C"),
+        );
+    }
+    let untouched = stack.0.iter().enumerate().position(|(i, &word)| word != paint(i)).unwrap();
+    assert!(untouched > WORDS / 4, "the work leaves a quarter of the stack alone");
+    8 * (WORDS - untouched)
+}
+
+extern "C" fn idle() -> u32 {
+    0
+}
+
+/// What a function takes beyond one that does nothing, and its return address.
+fn taken<F: Copy>(stack: &mut Stack, function: F, call: impl Fn(F) -> u32) -> usize {
+    // Safety: F is a pointer to a function of the C interface; one that looks at none of its arguments may be called as any such.
+    let nothing: F = unsafe { std::mem::transmute_copy(&(idle as extern "C" fn() -> u32)) };
+    let mut of = |f: F| {
+        painted(stack, || {
+            black_box(call(black_box(f)));
+        })
+    };
+    of(function) - of(nothing) + 8
+}
+
+/// The functions' names, and the most that a call has taken.
+type Most = BTreeMap<&'static str, usize>;
+
+fn put(stack: &mut Stack, most: &mut Most, request: &Request) {
+    let mut note = |name, bytes: usize| {
+        let before = most.entry(name).or_default();
+        *before = bytes.max(*before);
+    };
+    type Four<A, B> = unsafe extern "C" fn(*const A, usize, *mut B, usize) -> u32;
+    type Six<A, B, C> = unsafe extern "C" fn(*const A, usize, *const B, usize, *mut C, usize) -> u32;
+    // Safety: a slice's pointer and length are those that the header asks for.
+    match request.clone() {
+        Request::Rule { rule, mut numbers } => {
+            let (n, length) = (numbers.as_mut_ptr(), numbers.len());
+            let call = |f: Four<_, _>| unsafe { f(rule.as_ptr(), rule.len(), n, length) };
+            note("RULE", taken(stack, face::guard_rule as Four<_, _>, call));
+        }
+        Request::Bare { rule, script, mut numbers } => {
+            let (n, length) = (numbers.as_mut_ptr(), numbers.len());
+            let call = |f: Six<_, _, _>| unsafe { f(rule.as_ptr(), rule.len(), script.as_ptr(), script.len(), n, length) };
+            note("BARE", taken(stack, face::guard_bare as Six<_, _, _>, call));
+        }
+        Request::Script { rule, script, mut numbers } => {
+            let (n, length) = (numbers.as_mut_ptr(), numbers.len());
+            let call = |f: Six<_, _, _>| unsafe { f(rule.as_ptr(), rule.len(), script.as_ptr(), script.len(), n, length) };
+            note("SCRIPT", taken(stack, face::guard_script as Six<_, _, _>, call));
+        }
+        Request::Weave { rule, bare, mut out, mut numbers } => {
+            let (n, length) = (numbers.as_mut_ptr(), numbers.len());
+            let (o, out_length) = (out.as_mut_ptr(), out.len());
+            type F = unsafe extern "C" fn(*const u32, usize, *const u32, usize, *mut u32, usize, *mut u64, usize) -> u32;
+            let call =
+                |f: F| unsafe { f(rule.as_ptr(), rule.len(), bare.as_ptr(), bare.len(), o, out_length, n, length) };
+            note("WEAVE", taken(stack, face::guard_weave as F, call));
+        }
+        Request::Judge { rule, history, mut numbers } => {
+            let (n, length) = (numbers.as_mut_ptr(), numbers.len());
+            let call = |f: Six<_, _, _>| unsafe { f(rule.as_ptr(), rule.len(), history.as_ptr(), history.len(), n, length) };
+            note("JUDGE", taken(stack, face::guard_judge as Six<_, _, _>, call));
+        }
+        Request::Run { rule, script, inputs, budget, mut history, mut numbers } => {
+            let (n, length) = (numbers.as_mut_ptr(), numbers.len());
+            let (h, history_length) = (history.as_mut_ptr(), history.len());
+            type F = unsafe extern "C" fn(
+                *const u32, usize, *const u32, usize, *const u16, usize, u64, *mut u16, usize, *mut u64, usize,
+            ) -> u32;
+            let call = |f: F| unsafe {
+                let (rule_at, script_at, inputs_at) = (rule.as_ptr(), script.as_ptr(), inputs.as_ptr());
+                f(rule_at, rule.len(), script_at, script.len(), inputs_at, inputs.len(), budget, h, history_length, n, length)
+            };
+            note("RUN", taken(stack, face::guard_run as F, call));
+        }
+        Request::Fresh { rule, mut state } => {
+            let (s, length) = (state.as_mut_ptr(), state.len());
+            let call = |f: Four<_, _>| unsafe { f(rule.as_ptr(), rule.len(), s, length) };
+            note("FRESH", taken(stack, face::guard_fresh as Four<_, _>, call));
+        }
+        Request::Steps { rule, script, inputs, mut history, mut state, count } => {
+            let (s, length) = (state.as_mut_ptr(), state.len());
+            let (h, history_length) = (history.as_mut_ptr(), history.len());
+            type F = unsafe extern "C" fn(
+                *const u32, usize, *const u32, usize, *const u16, usize, *mut u16, usize, *mut u64, usize,
+            ) -> u32;
+            let call = |f: F| unsafe {
+                let (rule_at, script_at, inputs_at) = (rule.as_ptr(), script.as_ptr(), inputs.as_ptr());
+                f(rule_at, rule.len(), script_at, script.len(), inputs_at, inputs.len(), h, history_length, s, length)
+            };
+            for _ in 0..count {
+                note("STEP", taken(stack, face::guard_step as F, call));
+            }
+        }
+    }
+}
+
+/// Rules of 32 nodes with implies as deep as question 4 allows, fifteen, in the left operand, in the right one, and in turns; the last
+/// node is a weak previous, so that deciding goes through them twice.
+fn deepest_rules() -> Vec<Vec<u32>> {
+    let implies = |left: u32, right: u32| 3 << 29 | left << 6 | right << 1;
+    let deep = |in_left: &dyn Fn(u32) -> bool| {
+        let test = |k: u32| 1 << 29 | (k % 16) << 25 | k << 11;
+        let mut words = vec![test(0)];
+        for k in 0..15 {
+            let inner = 2 * k;
+            words.push(test(inner + 1));
+            words.push(if in_left(k) { implies(inner, inner + 1) } else { implies(inner + 1, inner) });
+        }
+        words.push(5 << 29 | 30 << 6);
+        words
+    };
+    vec![deep(&|_| true), deep(&|_| false), deep(&|k| k % 2 == 0)]
+}
+
+/// For a rule, every function on the longest input that it takes.
+fn full_requests(rule: Vec<u32>) -> Vec<Request> {
+    let present = 8 << 28;
+    let mut bare = vec![4 << 28; 900];
+    bare.extend([present, present, 7 << 28]);
+    let mut out = vec![0; 8 * 1024];
+    let mut numbers = vec![0; 22];
+    assert_eq!(compare::proved::weave(&rule, &bare, &mut out, &mut numbers), 0);
+    let script = out[..8 * numbers[1] as usize].to_vec();
+    let inputs = vec![1; 5_000];
+    let history = vec![0; 16 * 1_000];
+    vec![
+        Request::Rule { rule: rule.clone(), numbers: numbers.clone() },
+        Request::Bare { rule: rule.clone(), script: bare.clone(), numbers: numbers.clone() },
+        Request::Script { rule: rule.clone(), script: script.clone(), numbers: numbers.clone() },
+        Request::Weave { rule: rule.clone(), bare, out, numbers: numbers.clone() },
+        Request::Judge { rule: rule.clone(), history: history.clone(), numbers: numbers.clone() },
+        Request::Run {
+            rule: rule.clone(),
+            script: script.clone(),
+            inputs: inputs.clone(),
+            budget: 100_000,
+            history: history.clone(),
+            numbers,
+        },
+        Request::Fresh { rule: rule.clone(), state: vec![0; 21] },
+        Request::Steps { rule, script, inputs, history, state: vec![0; 21], count: 2_000 },
+    ]
+}
+
+/// What the header says of a function.
+fn stated(name: &str) -> usize {
+    let header = include_str!("../../../include/guard.h");
+    let (_, after) = header.split_once(&format!("GUARD_STACK_{name} = ")).unwrap_or_else(|| panic!("GUARD_STACK_{name}"));
+    after.split(|c: char| !c.is_ascii_digit()).next().unwrap().parse().unwrap()
+}
+
+#[test]
+fn stack_is_what_the_header_says() {
+    let mut stack = Box::new(Stack([0; WORDS]));
+    let mut most = Most::new();
+    for rule in deepest_rules() {
+        for request in full_requests(rule) {
+            put(&mut stack, &mut most, &request);
+        }
+    }
+    println!("deepest rules and full scripts: {most:?}");
+    for n in 0..REQUESTS {
+        put(&mut stack, &mut most, &request(3, n));
+    }
+    println!("and random requests: {most:?}");
+    assert_eq!(most.len(), 8);
+    for (name, bytes) in most {
+        let said = stated(name);
+        assert!(bytes <= said, "GUARD_STACK_{name} says {said}, a call took {bytes}");
+        assert!(said < bytes + 256, "GUARD_STACK_{name} says {said}, no call took more than {bytes}");
+    }
+}
