@@ -6,11 +6,13 @@ use reference::State;
 
 pub const R1: &[u32] = &[0x2200_0800, 0x2400_0800, 0x8000_0002];
 pub const R2: &[u32] = &[0x2200_0800, 0xa000_0000];
+#[rustfmt::skip]
 pub const R3: &[u32] = &[
     0x4719_4000, 0xa000_0000, 0x0000_0000, 0x6000_0044, 0x4719_4000, 0x0000_0000, 0x6000_010a, 0x2200_0800, 0x2400_0800,
     0x8000_01d0, 0x6000_0192, 0x6000_00d4,
 ];
 /// 32 nodes, past operators four deep.
+#[rustfmt::skip]
 pub const R4: &[u32] = &[
     0x2200_0800, 0x4719_4000, 0xa000_0040, 0x6000_0004, 0x48fa_0000, 0x2400_0800, 0x8000_010a, 0x8000_00cc, 0x2a00_1000,
     0x0000_0000, 0x6000_0212, 0x2c00_1800, 0xa000_02c0, 0xa000_0300, 0x8000_029a, 0xa000_0380, 0x4f77_0000, 0x3000_0800,
@@ -49,10 +51,9 @@ pub fn random_history(words: &[u32], states: usize) -> Vec<u16> {
     let mut history = vec![];
     for n in 0..states {
         let wanted = |n: usize| n + 1 < states;
+        let goes_on = |g: &mut Rng, next: &[bool]| n + 1 == states || found(g, &rule, next, wanted(n + 1)).is_some();
         let (state, next) = (0..1000)
-            .filter_map(|_| found(&mut g, &rule, &prior, wanted(n)).map(|(s, p)| (s, found(&mut g, &rule, &p, wanted(n + 1)), p)))
-            .find(|(_, after, _)| n + 1 == states || after.is_some())
-            .map(|(s, _, p)| (s, p))
+            .find_map(|_| found(&mut g, &rule, &prior, wanted(n)).filter(|(_, next)| goes_on(&mut g, next)))
             .expect("a state that goes on");
         prior = next;
         history.push(state);

@@ -80,8 +80,8 @@ fn script_rows() -> Vec<Row> {
             ],
         ));
         let block = check_rule(rule).expect("a rule").block_lines();
-        for lines in [16, 128, 256, 1024] {
-            if lines < block + 3 || (lines == 256 && block < 64) {
+        for lines in [16, 128, 1024] {
+            if lines < block + 3 {
                 continue;
             }
             let bare = bare_for(block, lines);
@@ -172,7 +172,8 @@ fn run_rows() -> Vec<Row> {
                     black_box(proved::run(R1, black_box(&script), black_box(&inputs), BUDGET, &mut history, &mut n));
                 }),
                 Box::new(move || {
-                    let peer = peers::machine::run(R1, black_box(&peer_script), black_box(&peer_inputs), BUDGET, &mut peer_history);
+                    let peer =
+                        peers::machine::run(R1, black_box(&peer_script), black_box(&peer_inputs), BUDGET, &mut peer_history);
                     black_box(peer.is_ok());
                 }),
             ],
@@ -208,8 +209,7 @@ fn main() {
     let mut rows = script_rows();
     rows.extend(run_rows());
     rows.push(step_row());
-    let mut tables =
-        [Table { peers: &["one at a time", "64 at once"], rows: judge_rows() }, Table { peers: &["peer"], rows }];
+    let mut tables = [Table { peers: &["one at a time", "64 at once"], rows: judge_rows() }, Table { peers: &["peer"], rows }];
     measure(&mut tables);
     tables.iter().for_each(Table::print);
 }

@@ -42,9 +42,8 @@ impl Row {
 
     fn measure(&mut self) {
         // as many calls as take some three hundred microseconds
-        let counts: Vec<usize> = (0..self.calls.len())
-            .map(|who| ((3e5 / (self.time(who, 3) * self.work)) as usize).clamp(1, 100_000))
-            .collect();
+        let counts: Vec<usize> =
+            (0..self.calls.len()).map(|who| ((3e5 / (self.time(who, 3) * self.work)) as usize).clamp(1, 100_000)).collect();
         let mut times: Vec<Vec<f64>> = counts.iter().map(|_| vec![]).collect();
         for i in 0..REPEATS {
             for j in 0..counts.len() {

@@ -1,12 +1,13 @@
 //! How much stack each function of `include/guard.h` takes: it is called on a painted stack, with rules of the deepest nesting, full
 //! scripts and random requests, and what was painted over is counted. The header says these numbers; they are not proved.
-use compare::proved::face;
+use compare::proved::{self, face};
 use compare::requests::{request, Request};
+use reference::rule::check_rule;
 use std::arch::asm;
 use std::collections::BTreeMap;
 use std::hint::black_box;
 
-const WORDS: usize = 2048;
+const WORDS: usize = 4096;
 const REQUESTS: u64 = 40_000;
 
 #[repr(align(16))]
@@ -28,7 +29,7 @@ fn painted<X: FnMut()>(stack: &mut Stack, mut work: X) -> usize {
         *word = paint(i);
     }
     let top = stack.0.as_mut_ptr_range().end;
-    // Safety: r12 keeps the old stack pointer over the call, and the work stays within the stack: see the assertion.
+    // Safety: r12 keeps the old stack pointer over the call, and the stack has several times what the work takes: see the assertion.
     unsafe {
         asm!(
             "xchg rsp, r12",
@@ -41,7 +42,7 @@ fn painted<X: FnMut()>(stack: &mut Stack, mut work: X) -> usize {
         );
     }
     let untouched = stack.0.iter().enumerate().position(|(i, &word)| word != paint(i)).unwrap();
-    assert!(untouched > WORDS / 4, "the work leaves a quarter of the stack alone");
+    assert!(untouched > WORDS / 2, "the work takes less than half of the stack");
     8 * (WORDS - untouched)
 }
 
@@ -92,8 +93,7 @@ fn put(stack: &mut Stack, most: &mut Most, request: &Request) {
             let (n, length) = (numbers.as_mut_ptr(), numbers.len());
             let (o, out_length) = (out.as_mut_ptr(), out.len());
             type F = unsafe extern "C" fn(*const u32, usize, *const u32, usize, *mut u32, usize, *mut u64, usize) -> u32;
-            let call =
-                |f: F| unsafe { f(rule.as_ptr(), rule.len(), bare.as_ptr(), bare.len(), o, out_length, n, length) };
+            let call = |f: F| unsafe { f(rule.as_ptr(), rule.len(), bare.as_ptr(), bare.len(), o, out_length, n, length) };
             note("WEAVE", taken(stack, face::guard_weave as F, call));
         }
         Request::Judge { rule, history, mut numbers } => {
@@ -105,7 +105,17 @@ fn put(stack: &mut Stack, most: &mut Most, request: &Request) {
             let (n, length) = (numbers.as_mut_ptr(), numbers.len());
             let (h, history_length) = (history.as_mut_ptr(), history.len());
             type F = unsafe extern "C" fn(
-                *const u32, usize, *const u32, usize, *const u16, usize, u64, *mut u16, usize, *mut u64, usize,
+                *const u32,
+                usize,
+                *const u32,
+                usize,
+                *const u16,
+                usize,
+                u64,
+                *mut u16,
+                usize,
+                *mut u64,
+                usize,
             ) -> u32;
             let call = |f: F| unsafe {
                 let (rule_at, script_at, inputs_at) = (rule.as_ptr(), script.as_ptr(), inputs.as_ptr());
@@ -122,7 +132,16 @@ fn put(stack: &mut Stack, most: &mut Most, request: &Request) {
             let (s, length) = (state.as_mut_ptr(), state.len());
             let (h, history_length) = (history.as_mut_ptr(), history.len());
             type F = unsafe extern "C" fn(
-                *const u32, usize, *const u32, usize, *const u16, usize, *mut u16, usize, *mut u64, usize,
+                *const u32,
+                usize,
+                *const u32,
+                usize,
+                *const u16,
+                usize,
+                *mut u16,
+                usize,
+                *mut u64,
+                usize,
             ) -> u32;
             let call = |f: F| unsafe {
                 let (rule_at, script_at, inputs_at) = (rule.as_ptr(), script.as_ptr(), inputs.as_ptr());
@@ -135,8 +154,8 @@ fn put(stack: &mut Stack, most: &mut Most, request: &Request) {
     }
 }
 
-/// Rules of 32 nodes with implies as deep as question 4 allows, fifteen, in the left operand, in the right one, and in turns; the last
-/// node is a weak previous, so that deciding goes through them twice.
+/// Rules of 32 nodes with implies as deep as question 4 allows, fifteen, in the left operand, in the right one, and in turns, under a
+/// weak previous.
 fn deepest_rules() -> Vec<Vec<u32>> {
     let implies = |left: u32, right: u32| 3 << 29 | left << 6 | right << 1;
     let deep = |in_left: &dyn Fn(u32) -> bool| {
@@ -153,15 +172,16 @@ fn deepest_rules() -> Vec<Vec<u32>> {
     vec![deep(&|_| true), deep(&|_| false), deep(&|k| k % 2 == 0)]
 }
 
-/// For a rule, every function on the longest input that it takes.
+/// Every function for a rule: a bare script with two presents that becomes 1,024 lines, and those lines.
 fn full_requests(rule: Vec<u32>) -> Vec<Request> {
-    let present = 8 << 28;
-    let mut bare = vec![4 << 28; 900];
-    bare.extend([present, present, 7 << 28]);
+    let block = check_rule(&rule).expect("a rule").block_lines();
+    let mut bare = vec![4 << 28; 1024 - 2 * block - 1];
+    bare.extend([8 << 28, 8 << 28, 7 << 28]);
     let mut out = vec![0; 8 * 1024];
     let mut numbers = vec![0; 22];
-    assert_eq!(compare::proved::weave(&rule, &bare, &mut out, &mut numbers), 0);
-    let script = out[..8 * numbers[1] as usize].to_vec();
+    assert_eq!(proved::weave(&rule, &bare, &mut out, &mut numbers), 0);
+    assert_eq!(numbers[1], 1024);
+    let script = out.clone();
     let inputs = vec![1; 5_000];
     let history = vec![0; 16 * 1_000];
     vec![
