@@ -70,106 +70,81 @@ fn put(stack: &mut Stack, most: &mut Most, request: &Request) {
         let before = most.entry(name).or_default();
         *before = bytes.max(*before);
     };
-    type Four<A, B> = unsafe extern "C" fn(*const A, usize, *mut B, usize) -> u32;
-    type Six<A, B, C> = unsafe extern "C" fn(*const A, usize, *const B, usize, *mut C, usize) -> u32;
-    // Safety: a slice's pointer and length are those that the header asks for.
+    // Safety of each call: a slice's pointer and length are those that the header asks for.
     match request.clone() {
         Request::Rule { rule, mut numbers } => {
             let (n, length) = (numbers.as_mut_ptr(), numbers.len());
-            let call = |f: Four<_, _>| unsafe { f(rule.as_ptr(), rule.len(), n, length) };
-            note("RULE", taken(stack, face::guard_rule as Four<_, _>, call));
+            let function = face::guard_rule as unsafe extern "C" fn(_, _, _, _) -> _;
+            note("RULE", taken(stack, function, |f| unsafe { f(rule.as_ptr(), rule.len(), n, length) }));
         }
         Request::Bare { rule, script, mut numbers } => {
+            let (s, words) = (script.as_ptr(), script.len());
             let (n, length) = (numbers.as_mut_ptr(), numbers.len());
-            let call = |f: Six<_, _, _>| unsafe { f(rule.as_ptr(), rule.len(), script.as_ptr(), script.len(), n, length) };
-            note("BARE", taken(stack, face::guard_bare as Six<_, _, _>, call));
+            let function = face::guard_bare as unsafe extern "C" fn(_, _, _, _, _, _) -> _;
+            note("BARE", taken(stack, function, |f| unsafe { f(rule.as_ptr(), rule.len(), s, words, n, length) }));
         }
         Request::Script { rule, script, mut numbers } => {
+            let (s, words) = (script.as_ptr(), script.len());
             let (n, length) = (numbers.as_mut_ptr(), numbers.len());
-            let call = |f: Six<_, _, _>| unsafe { f(rule.as_ptr(), rule.len(), script.as_ptr(), script.len(), n, length) };
-            note("SCRIPT", taken(stack, face::guard_script as Six<_, _, _>, call));
+            let function = face::guard_script as unsafe extern "C" fn(_, _, _, _, _, _) -> _;
+            note("SCRIPT", taken(stack, function, |f| unsafe { f(rule.as_ptr(), rule.len(), s, words, n, length) }));
         }
         Request::Weave { rule, bare, mut out, mut numbers } => {
+            let (b, words) = (bare.as_ptr(), bare.len());
+            let (o, space) = (out.as_mut_ptr(), out.len());
             let (n, length) = (numbers.as_mut_ptr(), numbers.len());
-            let (o, out_length) = (out.as_mut_ptr(), out.len());
-            type F = unsafe extern "C" fn(*const u32, usize, *const u32, usize, *mut u32, usize, *mut u64, usize) -> u32;
-            let call = |f: F| unsafe { f(rule.as_ptr(), rule.len(), bare.as_ptr(), bare.len(), o, out_length, n, length) };
-            note("WEAVE", taken(stack, face::guard_weave as F, call));
+            let function = face::guard_weave as unsafe extern "C" fn(_, _, _, _, _, _, _, _) -> _;
+            note("WEAVE", taken(stack, function, |f| unsafe { f(rule.as_ptr(), rule.len(), b, words, o, space, n, length) }));
         }
         Request::Judge { rule, history, mut numbers } => {
+            let (h, space) = (history.as_ptr(), history.len());
             let (n, length) = (numbers.as_mut_ptr(), numbers.len());
-            let call = |f: Six<_, _, _>| unsafe { f(rule.as_ptr(), rule.len(), history.as_ptr(), history.len(), n, length) };
-            note("JUDGE", taken(stack, face::guard_judge as Six<_, _, _>, call));
+            let function = face::guard_judge as unsafe extern "C" fn(_, _, _, _, _, _) -> _;
+            note("JUDGE", taken(stack, function, |f| unsafe { f(rule.as_ptr(), rule.len(), h, space, n, length) }));
         }
         Request::Run { rule, script, inputs, budget, mut history, mut numbers } => {
+            let (r, nodes, s, words) = (rule.as_ptr(), rule.len(), script.as_ptr(), script.len());
+            let (i, count) = (inputs.as_ptr(), inputs.len());
+            let (h, space) = (history.as_mut_ptr(), history.len());
             let (n, length) = (numbers.as_mut_ptr(), numbers.len());
-            let (h, history_length) = (history.as_mut_ptr(), history.len());
-            type F = unsafe extern "C" fn(
-                *const u32,
-                usize,
-                *const u32,
-                usize,
-                *const u16,
-                usize,
-                u64,
-                *mut u16,
-                usize,
-                *mut u64,
-                usize,
-            ) -> u32;
-            let call = |f: F| unsafe {
-                let (rule_at, script_at, inputs_at) = (rule.as_ptr(), script.as_ptr(), inputs.as_ptr());
-                f(rule_at, rule.len(), script_at, script.len(), inputs_at, inputs.len(), budget, h, history_length, n, length)
-            };
-            note("RUN", taken(stack, face::guard_run as F, call));
+            let function = face::guard_run as unsafe extern "C" fn(_, _, _, _, _, _, _, _, _, _, _) -> _;
+            note("RUN", taken(stack, function, |f| unsafe { f(r, nodes, s, words, i, count, budget, h, space, n, length) }));
         }
         Request::Fresh { rule, mut state } => {
-            let (s, length) = (state.as_mut_ptr(), state.len());
-            let call = |f: Four<_, _>| unsafe { f(rule.as_ptr(), rule.len(), s, length) };
-            note("FRESH", taken(stack, face::guard_fresh as Four<_, _>, call));
+            let (m, length) = (state.as_mut_ptr(), state.len());
+            let function = face::guard_fresh as unsafe extern "C" fn(_, _, _, _) -> _;
+            note("FRESH", taken(stack, function, |f| unsafe { f(rule.as_ptr(), rule.len(), m, length) }));
         }
-        Request::Steps { rule, script, inputs, mut history, mut state, count } => {
-            let (s, length) = (state.as_mut_ptr(), state.len());
-            let (h, history_length) = (history.as_mut_ptr(), history.len());
-            type F = unsafe extern "C" fn(
-                *const u32,
-                usize,
-                *const u32,
-                usize,
-                *const u16,
-                usize,
-                *mut u16,
-                usize,
-                *mut u64,
-                usize,
-            ) -> u32;
-            let call = |f: F| unsafe {
-                let (rule_at, script_at, inputs_at) = (rule.as_ptr(), script.as_ptr(), inputs.as_ptr());
-                f(rule_at, rule.len(), script_at, script.len(), inputs_at, inputs.len(), h, history_length, s, length)
-            };
-            for _ in 0..count {
-                note("STEP", taken(stack, face::guard_step as F, call));
+        Request::Steps { rule, script, inputs, mut history, mut state, count: steps } => {
+            let (r, nodes, s, words) = (rule.as_ptr(), rule.len(), script.as_ptr(), script.len());
+            let (i, count) = (inputs.as_ptr(), inputs.len());
+            let (h, space) = (history.as_mut_ptr(), history.len());
+            let (m, length) = (state.as_mut_ptr(), state.len());
+            let function = face::guard_step as unsafe extern "C" fn(_, _, _, _, _, _, _, _, _, _) -> _;
+            for _ in 0..steps {
+                note("STEP", taken(stack, function, |f| unsafe { f(r, nodes, s, words, i, count, h, space, m, length) }));
             }
         }
     }
 }
 
-/// Rules of 32 nodes with implies as deep as question 4 allows, fifteen, in the left operand, in the right one, and in turns, under a
-/// weak previous.
+/// Rules with implies as deep as question 4 allows, fifteen, in the left operand, in the right one, and in turns; each alone and under
+/// a weak previous, so that it is decided as the rule and as an operand.
 fn deepest_rules() -> Vec<Vec<u32>> {
+    let test = |k: u32| 1 << 29 | (k % 16) << 25 | k << 11;
     let implies = |left: u32, right: u32| 3 << 29 | left << 6 | right << 1;
-    let deep = |in_left: &dyn Fn(u32) -> bool| {
-        let test = |k: u32| 1 << 29 | (k % 16) << 25 | k << 11;
+    let in_left: [fn(u32) -> bool; 3] = [|_| true, |_| false, |k| k % 2 == 0];
+    let alone = in_left.map(|in_left| {
         let mut words = vec![test(0)];
         for k in 0..15 {
             let inner = 2 * k;
             words.push(test(inner + 1));
             words.push(if in_left(k) { implies(inner, inner + 1) } else { implies(inner + 1, inner) });
         }
-        words.push(5 << 29 | 30 << 6);
         words
-    };
-    vec![deep(&|_| true), deep(&|_| false), deep(&|k| k % 2 == 0)]
+    });
+    let under = alone.clone().map(|words| [words, vec![5 << 29 | 30 << 6]].concat());
+    [alone, under].concat()
 }
 
 /// Every function for a rule: a bare script with two presents that becomes 1,024 lines, and those lines.
@@ -230,4 +205,15 @@ fn stack_is_what_the_header_says() {
         assert!(bytes <= said, "GUARD_STACK_{name} says {said}, a call took {bytes}");
         assert!(said < bytes + 256, "GUARD_STACK_{name} says {said}, no call took more than {bytes}");
     }
+}
+
+/// The measure itself: a function that fills a thousand bytes is seen to.
+#[test]
+fn thousand_bytes_are_seen() {
+    extern "C" fn fill() -> u32 {
+        let bytes = black_box([1u8; 1000]);
+        bytes[999] as u32
+    }
+    let bytes = taken(&mut Stack([0; WORDS]), fill as extern "C" fn() -> u32, |f| f());
+    assert!((1000..2500).contains(&bytes), "{bytes}");
 }
