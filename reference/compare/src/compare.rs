@@ -63,7 +63,8 @@ fn same(proved: u32, reference: u32) -> Result<u32, String> {
     }
 }
 
-fn put(request: &Request, met: &mut Met) -> Result<(), String> {
+/// One request put to both: the first difference, if there is one.
+pub fn put(request: &Request, met: &mut Met) -> Result<(), String> {
     let mut count = |name: &'static str, result: u32| {
         met.calls += 1;
         *met.results.entry((name, result)).or_default() += 1;

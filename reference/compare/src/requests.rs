@@ -119,7 +119,12 @@ fn noted_most(g: &mut Rng, rule: &Rule) -> Vec<Line> {
             lines.push(Line::new(7, 0, 0, target));
             continue;
         }
-        let node = if op >= 9 { g.pick(&past) as u16 } else { 0 };
+        // the node of the line before, often, so that its bits are set, kept and asked about in turn
+        let node = match lines.last() {
+            _ if op < 9 => 0,
+            Some(l) if l.op >= 9 && g.chance(1, 2) => l.c,
+            _ => g.pick(&past) as u16,
+        };
         lines.push(match op {
             0 | 8 => Line::new(op, 0, 0, 0),
             1..=3 => Line::new(op, r, c, 0),
@@ -202,10 +207,35 @@ fn annotated(g: &mut Rng, rule: &Rule, spoiled: usize) -> Vec<u32> {
                 let line = if g.chance(1, 4) { 0 } else { g.below(lines.len()) };
                 words[8 * line + g.within(1, 7)] ^= 1 << (31 - g.below(rule.len()));
             }
+            // facts of one kind kept where a line leads, which its instruction may have to drop
+            13 | 14 => {
+                let kept = kept_facts(&lines, &words);
+                if !kept.is_empty() {
+                    let (at, facts) = g.pick(&kept);
+                    words[at] |= facts;
+                }
+            }
             _ => spoil(g, &mut words),
         }
     }
     words
+}
+
+/// For each line and each line that it leads to, the facts of each kind that are noted at the first alone, with the word where the
+/// second has that kind.
+fn kept_facts(lines: &[Line], words: &[u32]) -> Vec<(usize, u32)> {
+    let mut kept = vec![];
+    for (i, l) in lines.iter().enumerate() {
+        for to in l.follows(i) {
+            for kind in 1..8 {
+                let dropped = words[8 * i + kind] & !words[8 * to + kind];
+                if dropped != 0 {
+                    kept.push((8 * to + kind, dropped));
+                }
+            }
+        }
+    }
+    kept
 }
 
 /// A history of which the rule is often true for a while, sometimes spoiled.

@@ -1,6 +1,7 @@
 //! The comparison: every function of `include/guard.h` and the reference agree on random requests.
 //! GUARD_SEED and GUARD_REQUESTS set the seed and the number of requests; a request for steps makes several calls.
-use compare::compare::{compare, Met};
+use compare::compare::{compare, put, Met};
+use compare::requests::request;
 use compare::{faced, proved};
 use reference::facts::with_planted_fault;
 use std::env;
@@ -35,11 +36,16 @@ fn proved_and_reference_agree() {
     }
 }
 
-/// One fact rule of the reference made wrong (1 to 4 keep W): the comparison notices.
+/// One fact rule of the reference made wrong (1 to 4 keep W): the comparison notices. The requests are made without the fault, so that
+/// they are those of the comparison.
 #[test]
 fn planted_fault_is_noticed() {
-    let difference = with_planted_fault(|| compare(SEED, 20_000)).expect_err("the planted fault is noticed");
-    println!("{}", difference.lines().next().unwrap());
+    let mut met = Met::default();
+    let noticed = (0..REQUESTS).find(|&n| {
+        let asked = request(SEED, n);
+        with_planted_fault(|| put(&asked, &mut met)).is_err()
+    });
+    println!("request {}", noticed.expect("the planted fault is noticed"));
     compare(SEED, 2_000).expect("without it there is no difference");
 }
 
