@@ -23,6 +23,7 @@ fn node_size(sizes: &[u16], word: u32) -> u16
         3 => sizes[(word / 64 % 32) as usize] + sizes[(word / 2 % 32) as usize],
         4 => 2,
         5 => 2,
+        6 => 2,
         _ => 1,
     }
 }
@@ -57,6 +58,7 @@ fn node_lines(word: u32) -> usize
         3 => 0,
         4 => 8,
         5 => 6,
+        6 => 2,
         _ => 1,
     }
 }

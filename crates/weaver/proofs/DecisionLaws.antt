@@ -14,10 +14,11 @@ use native.Mathlib.Omega.{arith}
 use lib.Dec.{ltb}
 use lib.ListN.{length, getD}
 use Rattle.spec.specs.Questions.{all}
-use Rattle.spec.specs.Rule.{form32, field, NodeFields, nodeFields, byKind, Node, falseNode, testNode, impliesNode, sinceNode, weakPreviousNode, nodeOf, Table, nodeAt, operands}
+use Rattle.spec.specs.Rule.{form32, field, NodeFields, nodeFields, Node, falseNode, testNode, impliesNode, sinceNode, weakPreviousNode, nodeOf, Table, nodeAt, operands}
 use Rattle.spec.specs.Facts.{valueIs, Facts, _∪_, one}
 use Rattle.spec.specs.Check.{lineLength}
 use Rattle.spec.specs.Weaver.{sizeFrom, decideSize, decideFrom, decide}
+use Rattle.spec.proofs.KindLaws.{by-kind}
 use Rattle.spec.proofs.RuleLaws.{InOrder, by-lower, both-lower, rule-out}
 use Rattle.spec.proofs.WeaverLaws.{decideSize-is, decide-at}
 use Rattle.rule.proofs.NodeLaws.{node-at, kind-3}
@@ -44,19 +45,10 @@ size-some t o = by-lower (λ k. 0 < decideSize t k) (λ k below.
     (positive (decideSize t) (nodeAt t k) k (λ j l r e. below l (lower-left t o k l r e .0))))
 
 -- a node's size looks at its operands for implies only
-kind-size : (size : ℕ → ℕ) (f : NodeFields) (k i : ℕ) → (i ≡ 3 → ⊥)
-    → sizeFrom size (getD (byKind f) i falseNode) k ≡ sizeFrom (λ j. 0) (getD (byKind f) i falseNode) k
-kind-size size f k zero other = refl
-kind-size size f k (suc zero) other = refl
-kind-size size f k (suc (suc zero)) other = refl
-kind-size size f k (suc (suc (suc zero))) other = absurd (other refl)
-kind-size size f k (suc (suc (suc (suc zero)))) other = refl
-kind-size size f k (suc (suc (suc (suc (suc zero))))) other = refl
-kind-size size f k (suc (suc (suc (suc (suc (suc i)))))) other = refl
-
 leaf-size : (size : ℕ → ℕ) (f : NodeFields) (k : ℕ) → (f .kind ≡ 3 → ⊥) → sizeFrom size (nodeOf f) k ≡ sizeFrom (λ j. 0) (nodeOf f) k
-unfolding nodeOf
-leaf-size size f k other = kind-size size f k (f .kind) other
+leaf-size size f k other =
+    by-kind f (λ i x. (i ≡ 3 → ⊥) → sizeFrom size x k ≡ sizeFrom (λ j. 0) x k) (λ o. refl) (λ o. refl) (λ o. refl) (λ o. absurd (o refl)) (λ o. refl)
+    (λ o. refl) (λ o. refl) (λ i h o. refl) other
 
 module _ (rule sizes : List ℕ) (k place onTrue onFalse : ℕ) (out : List ℕ) (d : Deciding rule sizes k place onTrue onFalse out) where
   abbrev t : Table

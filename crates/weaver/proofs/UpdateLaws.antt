@@ -15,10 +15,11 @@ use native.Mathlib.Omega.{arith}
 use lib.ListN.{length, getD, drop, length-drop, length-append}
 use lib.Dec.{ltb}
 use Rattle.spec.specs.Questions.{all}
-use Rattle.spec.specs.Rule.{form32, field, NodeFields, nodeFields, byKind, falseNode, sinceNode, weakPreviousNode, nodeOf, Table, nodeAt, operands}
+use Rattle.spec.specs.Rule.{form32, field, nodeFields, sinceNode, weakPreviousNode, nodeOf, Table, nodeAt, operands}
 use Rattle.spec.specs.Script.{Instruction, wordFor}
 use Rattle.spec.specs.Facts.{valueIs, priorIs, Facts, _∪_, one}
 use Rattle.spec.specs.Weaver.{line, decideSize, decide, setting, update, updateSize}
+use Rattle.spec.proofs.KindLaws.{by-kind}
 use Rattle.spec.proofs.RuleLaws.{InOrder, both-lower, one-lower, rule-out}
 use Rattle.spec.proofs.WeaverLaws.{length-decide, length-setting}
 use Rattle.rule.proofs.NodeLaws.{node-at, kind-4, kind-5}
@@ -215,20 +216,12 @@ module _ (rule sizes : List ℕ) (k place : ℕ) (out : List ℕ) (u : Updating 
 
 -- ---- other nodes
 
-kind-none : (t : Table) (f : NodeFields) (k place : ℕ) (F : Facts) (i : ℕ) → (i ≡ 4 → ⊥) → (i ≡ 5 → ⊥)
-    → (0 ≡ updateSize t (getD (byKind f) i falseNode)) × ([] ≡ update t (getD (byKind f) i falseNode) k place F)
-unfolding updateSize update
-kind-none t f k place F zero a b = (refl, refl)
-kind-none t f k place F (suc zero) a b = (refl, refl)
-kind-none t f k place F (suc (suc zero)) a b = (refl, refl)
-kind-none t f k place F (suc (suc (suc zero))) a b = (refl, refl)
-kind-none t f k place F (suc (suc (suc (suc zero)))) a b = absurd (a refl)
-kind-none t f k place F (suc (suc (suc (suc (suc zero))))) a b = absurd (b refl)
-kind-none t f k place F (suc (suc (suc (suc (suc (suc i)))))) a b = (refl, refl)
-
 pub no-code : (rule : List ℕ) (k place : ℕ) (F : Facts) → (field 29 3 (getD rule k 0) ≡ 4 → ⊥) → (field 29 3 (getD rule k 0) ≡ 5 → ⊥)
     → (0 ≡ updateSize (tableIn rule) (nodeAt (tableIn rule) k)) × ([] ≡ update (tableIn rule) (nodeAt (tableIn rule) k) k place F)
-unfolding nodeOf
+unfolding updateSize update
 no-code rule k place F a b =
-    subst (λ x. (0 ≡ updateSize (tableIn rule) x) × ([] ≡ update (tableIn rule) x k place F)) (sym (node-at rule k))
-    (kind-none (tableIn rule) (nodeFields (getD rule k 0)) k place F (field 29 3 (getD rule k 0)) a b)
+    let t = tableIn rule in
+    subst (λ x. (0 ≡ updateSize t x) × ([] ≡ update t x k place F)) (sym (node-at rule k))
+    (by-kind (nodeFields (getD rule k 0)) (λ i x. (i ≡ 4 → ⊥) → (i ≡ 5 → ⊥) → (0 ≡ updateSize t x) × ([] ≡ update t x k place F))
+    (λ u v. (refl, refl)) (λ u v. (refl, refl)) (λ u v. (refl, refl)) (λ u v. (refl, refl)) (λ u v. absurd (u refl)) (λ u v. absurd (v refl))
+    (λ u v. (refl, refl)) (λ i h u v. (refl, refl)) a b)

@@ -47,6 +47,7 @@ fn put_simple(word: u32, k: usize, on_true: usize, on_false: usize, x: Facts, ou
         2 => put_leaf(code(6, r, c, on_true), k, on_false, x, out),
         4 => put_leaf(code(11, 0, k as u32, on_true), k, on_false, x, out),
         5 => put_leaf(code(10, 0, k as u32, on_true), k, on_false, x, out),
+        6 => put_leaf(code(13, r, c, on_true), k, on_false, x, out),
         _ => put_line(code(7, 0, 0, on_false), x, out),
     }
 }
