@@ -164,10 +164,10 @@ fn pass_open(rule: &Rule, line: &Line, s: Facts) -> (Option<Facts>, Option<Facts
             }
             (None, Some(n))
         }
-        5 | 6 => {
+        5 | 6 | 13 => {
             let (mut yes, mut not) = (s, s);
             for (i, d) in rule.nodes.iter().enumerate() {
-                if d.kind == line.op - 4 && d.register == line.r && d.constant == line.c {
+                if d.branch() == Some(line.op) && d.register == line.r && d.constant == line.c {
                     yes.add(T, i);
                     not.add(F, i);
                 }

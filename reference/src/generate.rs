@@ -9,8 +9,9 @@ pub const REGISTERS: usize = 3;
 pub const CONSTANTS: usize = 4;
 
 fn leaf(g: &mut Rng) -> Node {
-    match g.pick(&[0, 1, 1, 1, 2, 2]) {
+    match g.pick(&[0, 1, 1, 2, 2, 6, 6]) {
         0 => Node::new(0, 0, 0, 0, 0),
+        6 => Node::new(6, g.below(REGISTERS) as u8, g.below(REGISTERS) as u16, 0, 0),
         k => Node::new(k, g.below(REGISTERS) as u8, g.below(CONSTANTS) as u16, 0, 0),
     }
 }
@@ -57,7 +58,7 @@ pub fn bare(g: &mut Rng, rule: &Rule, n: usize) -> Vec<Line> {
     for i in 0..n {
         let last = i + 1 == n;
         let op = loop {
-            let op = g.pick(&[0, 1, 2, 3, 4, 4, 4, 4, 5, 6, 7, 7, 8, 8, 8, 8]);
+            let op = g.pick(&[0, 1, 2, 3, 4, 4, 4, 4, 5, 6, 7, 7, 8, 8, 8, 8, 13, 13]);
             if (!last || matches!(op, 0 | 7)) && (op != 0 || last || g.chance(1, 4)) {
                 break op;
             }
@@ -72,6 +73,7 @@ pub fn bare(g: &mut Rng, rule: &Rule, n: usize) -> Vec<Line> {
             3 => Line::new(op, r, if g.chance(1, 10) { 16_383 - c } else { c }, 0),
             4 => Line::new(op, r, 0, 0),
             5 | 6 => Line::new(op, r, c, t),
+            13 => Line::new(op, r, g.below(REGISTERS) as u16, t),
             _ => Line::new(op, 0, 0, t),
         });
     }

@@ -21,7 +21,7 @@ pub fn values_now(rule: &Rule, prior: &[bool], now: &State) -> Vec<bool> {
         let (l, r) = (d.left as usize, d.right as usize);
         let x = match d.kind {
             0 => false,
-            1 | 2 => d.test(now),
+            1 | 2 | 6 => d.test(now),
             3 => !v[l] || v[r],
             4 => v[r] || (v[l] && prior[i]),
             5 => prior[i],

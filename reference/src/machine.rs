@@ -1,7 +1,7 @@
 //! One step, and the run.
 use crate::judge::check_numbers;
 use crate::rule::{Node, MOST_NODES};
-use crate::script::{check_script, fields_allowed, Line};
+use crate::script::{annotated_opcode, check_script, fields_allowed, Line};
 use crate::{No, State, TOP};
 
 #[derive(Clone, Debug, PartialEq, Eq)]
@@ -62,12 +62,13 @@ pub fn write(l: &Line, dials: &State, input: u16) -> State {
     d
 }
 
-/// Is the test of opcode 5 or 6 true?
+/// Is the test of opcode 5, 6 or 13 true?
 pub fn test(l: &Line, dials: &State) -> bool {
     let dial = dials[l.r as usize];
     match l.op {
         5 => dial == l.c,
         6 => dial < l.c,
+        13 => dial == dials[l.c as usize],
         _ => unreachable!(),
     }
 }
@@ -88,7 +89,7 @@ impl Machine {
                 m.dials = write(l, &m.dials, inputs[m.read as usize]);
                 m.read += 1;
             }
-            5 | 6 => m.line = if test(l, &m.dials) { target } else { next },
+            5 | 6 | 13 => m.line = if test(l, &m.dials) { target } else { next },
             7 => m.line = target,
             8 => {
                 let p = 16 * m.presentations as usize;
@@ -112,7 +113,7 @@ pub fn step_stored(rule: &[u32], script: &[u32], inputs: &[u16], history: &mut [
         return m;
     }
     let l = Line::decode(script[8 * m.line as usize]);
-    if !fields_allowed(&nodes_within(rule), 12, &l) {
+    if !fields_allowed(&nodes_within(rule), annotated_opcode, &l) {
         return m;
     }
     m.step(&l, inputs, history)

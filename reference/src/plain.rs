@@ -35,7 +35,7 @@ impl Plain {
                 p.read += 1;
                 p.line += 1;
             }
-            5 | 6 => p.line = if test(l, &self.dials) { l.target as usize } else { self.line + 1 },
+            5 | 6 | 13 => p.line = if test(l, &self.dials) { l.target as usize } else { self.line + 1 },
             7 => p.line = l.target as usize,
             8 => {
                 if rule.holds_now(&self.history, &self.dials) {

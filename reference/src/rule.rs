@@ -39,8 +39,14 @@ impl Node {
         Node { kind, register, constant, left, right, zero: 0 }
     }
 
-    pub fn is_test(&self) -> bool {
-        matches!(self.kind, 1 | 2)
+    /// The opcode that branches on the node's test, if it is one.
+    pub fn branch(&self) -> Option<u8> {
+        match self.kind {
+            1 => Some(5),
+            2 => Some(6),
+            6 => Some(13),
+            _ => None,
+        }
     }
 
     pub fn is_past(&self) -> bool {
@@ -62,7 +68,7 @@ impl Node {
         self.zero == 0
             && match self.kind {
                 0 => test && left && right,
-                1 | 2 => left && right,
+                1 | 2 | 6 => left && right,
                 3 | 4 => test,
                 5 => test && right,
                 _ => unreachable!(),
@@ -75,6 +81,7 @@ impl Node {
         match self.kind {
             1 => dial == self.constant,
             2 => dial < self.constant,
+            6 => dial == state[self.constant as usize],
             _ => unreachable!(),
         }
     }
@@ -93,9 +100,9 @@ pub fn check_rule(words: &[u32]) -> Result<Rule, No> {
         return no(1, 0);
     }
     let rule = Rule { nodes: words.iter().map(|&w| Node::decode(w)).collect() };
-    // 2. Are kinds 0 to 5 and unused fields zero?
+    // 2. Are kinds 0 to 6, unused fields zero, and the other register of a kind 6 at most 15?
     for (i, n) in rule.nodes.iter().enumerate() {
-        if n.kind > 5 || !n.unused_fields_zero() {
+        if n.kind > 6 || !n.unused_fields_zero() || n.kind == 6 && n.constant > 15 {
             return no(2, i);
         }
     }
@@ -150,7 +157,7 @@ impl Rule {
         let (left, right) = (d.left as usize, d.right as usize);
         match d.kind {
             0 => false,
-            1 | 2 => d.test(&history[n]),
+            1 | 2 | 6 => d.test(&history[n]),
             3 => !self.truth(left, history, n) || self.truth(right, history, n),
             4 => (0..=n).any(|i| self.truth(right, history, i) && (i + 1..=n).all(|j| self.truth(left, history, j))),
             5 => n == 0 || self.truth(left, history, n - 1),
@@ -167,7 +174,7 @@ impl Rule {
             let row = (0..history.len())
                 .map(|n| match d.kind {
                     0 => false,
-                    1 | 2 => d.test(&history[n]),
+                    1 | 2 | 6 => d.test(&history[n]),
                     3 => !table[left][n] || table[right][n],
                     4 => (0..=n).any(|i| table[right][i] && (i + 1..=n).all(|j| table[left][j])),
                     5 => n == 0 || table[left][n - 1],
@@ -189,6 +196,6 @@ impl Rule {
     /// The formula for the lines of a block.
     pub fn block_lines(&self) -> usize {
         let count = |kinds: &[u8]| self.nodes.iter().filter(|n| kinds.contains(&n.kind)).count();
-        1 + 2 * count(&[1, 2]) + count(&[0]) + 8 * count(&[4]) + 6 * count(&[5])
+        1 + 2 * count(&[1, 2, 6]) + count(&[0]) + 8 * count(&[4]) + 6 * count(&[5])
     }
 }

@@ -40,7 +40,7 @@ impl Line {
     }
 
     pub fn uses_target(&self) -> bool {
-        matches!(self.op, 5 | 6 | 7 | 10 | 11)
+        matches!(self.op, 5 | 6 | 7 | 10 | 11 | 13)
     }
 
     /// Lines that can follow, whatever a test may say.
@@ -48,18 +48,26 @@ impl Line {
         match self.op {
             0 => vec![],
             7 => vec![self.target as usize],
-            5 | 6 | 10 | 11 => vec![self.target as usize, at + 1],
+            5 | 6 | 10 | 11 | 13 => vec![self.target as usize, at + 1],
             _ => vec![at + 1],
         }
     }
 }
 
-/// Question 6 for one line: opcodes up to `most` allowed, unused fields zero, register in c at most 15, node in c a past node,
-/// set bit 0 or 1.
-pub fn fields_allowed(nodes: &[Node], most: u8, l: &Line) -> bool {
+/// The opcodes of bare scripts, and of annotated ones.
+pub fn bare_opcode(op: u8) -> bool {
+    matches!(op, 0..=8 | 13)
+}
+
+pub fn annotated_opcode(op: u8) -> bool {
+    op <= 13
+}
+
+/// Question 6 for one line: opcode allowed, unused fields zero, register in c at most 15, node in c a past node, set bit 0 or 1.
+pub fn fields_allowed(nodes: &[Node], opcode_allowed: fn(u8) -> bool, l: &Line) -> bool {
     let (r0, c0, t0) = (l.r == 0, l.c == 0, l.target == 0);
     let past = nodes.get(l.c as usize).is_some_and(Node::is_past);
-    l.op <= most
+    opcode_allowed(l.op)
         && match l.op {
             0 | 8 => r0 && c0 && t0,
             1 | 3 => t0,
@@ -70,15 +78,16 @@ pub fn fields_allowed(nodes: &[Node], most: u8, l: &Line) -> bool {
             9 => t0 && l.r <= 1 && past,
             10 | 11 => r0 && past,
             12 => r0 && t0 && past,
+            13 => l.c <= 15,
             _ => false,
         }
 }
 
 /// Questions 6 and 7.
-fn check_code(rule: &Rule, most: u8, lines: &[Line]) -> Result<(), No> {
+fn check_code(rule: &Rule, opcode_allowed: fn(u8) -> bool, lines: &[Line]) -> Result<(), No> {
     // 6. Opcodes allowed, unused fields zero, register in c at most 15, node in c a past node, set bit 0 or 1?
     for (i, l) in lines.iter().enumerate() {
-        if !fields_allowed(&rule.nodes, most, l) {
+        if !fields_allowed(&rule.nodes, opcode_allowed, l) {
             return no(6, i);
         }
     }
@@ -99,7 +108,7 @@ pub fn check_bare(rule: &[u32], words: &[u32]) -> Result<(Rule, Vec<Line>), No> 
         return no(5, 0);
     }
     let lines: Vec<Line> = words.iter().map(|&w| Line::decode(w)).collect();
-    check_code(&rule, 8, &lines)?;
+    check_code(&rule, bare_opcode, &lines)?;
     Ok((rule, lines))
 }
 
@@ -111,7 +120,7 @@ pub fn check_script(rule: &[u32], words: &[u32]) -> Result<(Rule, Vec<Line>), No
         return no(5, 0);
     }
     let lines: Vec<Line> = words.chunks(8).map(Line::decode_annotated).collect();
-    check_code(&rule, 12, &lines)?;
+    check_code(&rule, annotated_opcode, &lines)?;
     // 8. Facts only where they belong?
     let all = all_facts(&rule);
     for (i, l) in lines.iter().enumerate() {

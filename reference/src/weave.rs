@@ -35,12 +35,12 @@ impl Writer<'_> {
     /// Deciding node i towards two places, from the facts `g`.
     fn decide(&mut self, i: usize, g: Facts, yes: Label, not: Label) {
         let d = self.rule.nodes[i];
+        if let Some(op) = d.branch() {
+            self.put(g, op, d.register, d.constant, Some(yes));
+            return self.go(g.with(F, i), not);
+        }
         match d.kind {
             0 => self.go(g, not),
-            1 | 2 => {
-                self.put(g, d.kind + 4, d.register, d.constant, Some(yes));
-                self.go(g.with(F, i), not);
-            }
             3 => {
                 let code_for_right = self.label();
                 self.decide(d.left as usize, g, code_for_right, yes);

@@ -2,7 +2,7 @@
 use crate::peers::judge::{many_at_once, one_at_a_time};
 use crate::peers::machine::{run, step};
 use crate::peers::rule::Rule;
-use crate::peers::script::{check_code, check_script};
+use crate::peers::script::{check_code, check_script, BARE};
 use crate::peers::weave::weave;
 use crate::peers::No;
 use compare::proved;
@@ -20,7 +20,7 @@ fn agree_on(request: Request) {
         }
         Request::Bare { rule, script, .. } => {
             let mut p = [0];
-            let peer = Rule::read(&rule).and_then(|r| check_code(&r, &script, 1, 8));
+            let peer = Rule::read(&rule).and_then(|r| check_code(&r, &script, 1, BARE));
             assert_eq!((proved::bare(&rule, &script, &mut p), p[0]), numbers(peer));
         }
         Request::Script { rule, script, .. } => {

@@ -24,7 +24,7 @@ pub const RULES: [(&str, &[u32]); 4] = [("R1", R1), ("R2", R2), ("R3", R3), ("R4
 /// Numbers about the constants of a register's tests, so that each test is true about half of the time.
 fn random_state(g: &mut Rng, rule: &Rule) -> State {
     std::array::from_fn(|register| {
-        let tests = rule.nodes.iter().filter(|d| d.is_test() && d.register as usize == register);
+        let tests = rule.nodes.iter().filter(|d| d.branch().is_some() && d.register as usize == register);
         let about: Vec<u16> = tests.flat_map(|d| [d.constant.saturating_sub(1), d.constant]).collect();
         if about.is_empty() {
             g.below(16_384) as u16

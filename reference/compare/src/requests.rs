@@ -95,7 +95,7 @@ fn bare(g: &mut Rng, rule: &Rule, spoiled: usize) -> Vec<u32> {
             2 => words.iter_mut().for_each(|w| *w = g.next() as u32),
             3 => {
                 let i = g.below(words.len());
-                words[i] = (g.below(13) as u32) << 28 | words[i] & 0x0fff_ffff;
+                words[i] = (g.below(16) as u32) << 28 | words[i] & 0x0fff_ffff;
             }
             _ => spoil(g, &mut words),
         }
@@ -114,15 +114,16 @@ fn noted_most(g: &mut Rng, rule: &Rule) -> Vec<Line> {
         let target = if g.chance(1, 6) && !last { i + 1 } else { g.below(n) } as u16;
         let r = g.below(generate::REGISTERS) as u8;
         let c = g.below(generate::CONSTANTS) as u16;
-        let op = if last { g.pick(&[0, 7]) } else { g.pick(&[1, 2, 3, 4, 5, 6, 7, 8, 8, 8, 9, 9, 10, 10, 11, 11, 12, 12]) };
-        if op >= 9 && past.is_empty() {
+        let op = if last { g.pick(&[0, 7]) } else { g.pick(&[1, 2, 3, 4, 5, 6, 7, 8, 8, 8, 9, 9, 10, 10, 11, 11, 12, 12, 13, 13]) };
+        let of_node = matches!(op, 9..=12);
+        if of_node && past.is_empty() {
             lines.push(Line::new(7, 0, 0, target));
             continue;
         }
         // the node of the line before, often, so that its bits are set, kept and asked about in turn
         let node = match lines.last() {
-            _ if op < 9 => 0,
-            Some(l) if l.op >= 9 && g.chance(1, 2) => l.c,
+            _ if !of_node => 0,
+            Some(l) if matches!(l.op, 9..=12) && g.chance(1, 2) => l.c,
             _ => g.pick(&past) as u16,
         };
         lines.push(match op {
@@ -130,7 +131,9 @@ fn noted_most(g: &mut Rng, rule: &Rule) -> Vec<Line> {
             1..=3 => Line::new(op, r, c, 0),
             4 => Line::new(op, r, 0, 0),
             // a test of the rule, often
-            5 | 6 => match rule.nodes.iter().filter(|d| d.kind == op - 4).nth(g.below(3)) {
+            5 | 6 | 13 => match rule.nodes.iter().filter(|d| d.branch() == Some(op)).nth(g.below(3)) {
+                // registers the other way round, sometimes
+                Some(d) if op == 13 && g.chance(1, 4) => Line::new(op, d.constant as u8, d.register as u16, target),
                 Some(d) => Line::new(op, d.register, d.constant, target),
                 None => Line::new(op, r, c, target),
             },

@@ -1,6 +1,6 @@
 //! Two judges over a rule that is decoded once: one takes a state at a time without a branch on what it reads, the other 64 states
 //! at once, a word for each node.
-use super::rule::{Rule, BELOW, EQUAL, FALSE, IMPLIES, SINCE, WEAK_PREVIOUS};
+use super::rule::{has_left, Rule, BELOW, EQUAL, EQUAL_REGISTERS, FALSE, IMPLIES, SINCE, WEAK_PREVIOUS};
 use super::{joined, no, numbers_small, No};
 
 /// A test: `lo` <= register < `lo` + `width`, in one comparison.
@@ -9,6 +9,14 @@ struct Test {
     lo: u16,
     width: u16,
     register: u8,
+    bit: u8,
+}
+
+/// A test of two registers.
+#[derive(Clone, Copy, Default)]
+struct Pair {
+    register: u8,
+    other: u8,
     bit: u8,
 }
 
@@ -25,6 +33,8 @@ struct Join {
 struct Decoded {
     tests: [Test; 32],
     test_count: usize,
+    pairs: [Pair; 32],
+    pair_count: usize,
     /// Implies, since and weak previous, in the order of their numbers.
     joins: [Join; 32],
     join_count: usize,
@@ -43,7 +53,7 @@ impl Decoded {
 
     fn number(&mut self, rule: &Rule, node: usize, next: &mut u8) -> u8 {
         let n = rule.nodes[node & 31];
-        let left = if n.kind >= IMPLIES { self.number(rule, n.left as usize, next) } else { 0 };
+        let left = if has_left(n.kind) { self.number(rule, n.left as usize, next) } else { 0 };
         let right = if matches!(n.kind, IMPLIES | SINCE) { self.number(rule, n.right as usize, next) } else { 0 };
         let bit = *next;
         *next += 1;
@@ -53,6 +63,10 @@ impl Decoded {
                 let (lo, width) = if n.kind == EQUAL { (n.constant, 1) } else { (0, n.constant) };
                 self.tests[self.test_count & 31] = Test { lo, width, register: n.register, bit };
                 self.test_count += 1;
+            }
+            EQUAL_REGISTERS => {
+                self.pairs[self.pair_count & 31] = Pair { register: n.register, other: n.constant as u8, bit };
+                self.pair_count += 1;
             }
             kind => {
                 self.since |= ((kind == SINCE) as u32) << bit;
@@ -66,6 +80,10 @@ impl Decoded {
 
     fn tests(&self) -> &[Test] {
         &self.tests[..self.test_count]
+    }
+
+    fn pairs(&self) -> &[Pair] {
+        &self.pairs[..self.pair_count]
     }
 
     fn joins(&self) -> &[Join] {
@@ -101,6 +119,10 @@ pub fn one_at_a_time(rule: &[u32], history: &[u16]) -> Result<Option<usize>, No>
             let holds = state[(t.register & 15) as usize].wrapping_sub(t.lo) < t.width;
             values |= (holds as u32) << (t.bit & 31);
         }
+        for p in d.pairs() {
+            let holds = state[(p.register & 15) as usize] == state[(p.other & 15) as usize];
+            values |= (holds as u32) << (p.bit & 31);
+        }
         // since: right, or left and prior; implies: right, or not left
         let (gate, flip) = (prior | !d.since, !d.since);
         for j in joins {
@@ -116,12 +138,13 @@ pub fn one_at_a_time(rule: &[u32], history: &[u16]) -> Result<Option<usize>, No>
     Ok(None)
 }
 
-/// The states at which a register passes, state i at bit i: four quarters of the word side by side.
-fn packed(block: &[u16; 1024], register: usize, passes: impl Fn(u16) -> bool) -> u64 {
+/// The states that pass, state i at bit i: four quarters of the word side by side.
+fn packed(block: &[u16; 1024], passes: impl Fn(&[u16; 16]) -> bool) -> u64 {
     let mut quarters = [0u64; 4];
     for j in (0..16).rev() {
         for (q, bits) in quarters.iter_mut().enumerate() {
-            *bits = *bits << 1 | passes(block[256 * q + 16 * j + (register & 15)]) as u64;
+            let at = 256 * q + 16 * j;
+            *bits = *bits << 1 | passes(block[at..at + 16].try_into().unwrap()) as u64;
         }
     }
     quarters[0] | quarters[1] << 16 | quarters[2] << 32 | quarters[3] << 48
@@ -130,11 +153,15 @@ fn packed(block: &[u16; 1024], register: usize, passes: impl Fn(u16) -> bool) ->
 /// The rule's values at 64 states.
 fn values_at(d: &Decoded, block: &[u16; 1024], values: &mut [u64; 32], carry: &mut [u64; 32]) -> u64 {
     for t in d.tests() {
-        let register = t.register as usize;
+        let register = (t.register & 15) as usize;
         values[(t.bit & 31) as usize] = match t.lo {
-            0 => packed(block, register, |x| x < t.width),
-            lo => packed(block, register, |x| x == lo),
+            0 => packed(block, |state| state[register] < t.width),
+            lo => packed(block, |state| state[register] == lo),
         };
+    }
+    for p in d.pairs() {
+        let (register, other) = ((p.register & 15) as usize, (p.other & 15) as usize);
+        values[(p.bit & 31) as usize] = packed(block, |state| state[register] == state[other]);
     }
     for j in d.joins() {
         let at = (j.bit & 31) as usize;

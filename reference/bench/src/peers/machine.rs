@@ -1,6 +1,6 @@
 //! The run over decoded lines, and the single step over stored ones.
 use super::rule::{bit, SINCE, WEAK_PREVIOUS};
-use super::script::{check_script, is_allowed};
+use super::script::{check_script, is_allowed, ANNOTATED};
 use super::{numbers_small, No};
 
 #[derive(Clone, Copy, Default)]
@@ -81,6 +81,7 @@ pub fn run(words: &[u32], script: &[u32], inputs: &[u16], budget: u64, history: 
             }
             10 => kept & node != 0,
             11 => work & node != 0,
+            13 => r[k] == r[l.c as usize & 15],
             _ => {
                 kept = kept & !node | work & node;
                 false
@@ -110,7 +111,7 @@ pub fn step(rule: &[u32], script: &[u32], inputs: &[u16], history: &mut [u16], s
     // question 6 looks at one node
     let named = rule.get(l.c as usize).filter(|_| l.c < 32).map_or(0, |w| (w >> 29) as u8);
     let past = if matches!(named, SINCE | WEAK_PREVIOUS) { bit(l.c as usize) } else { 0 };
-    if !is_allowed(past, 12, word) {
+    if !is_allowed(past, ANNOTATED, word) {
         return 0;
     }
     let r = l.r as usize & 15;
@@ -154,6 +155,7 @@ pub fn step(rule: &[u32], script: &[u32], inputs: &[u16], history: &mut [u16], s
         }
         10 if *kept & node != 0 => target,
         11 if *work & node != 0 => target,
+        13 if registers[r] == registers[c & 15] => target,
         12 => {
             *kept = *kept & !node | *work & node;
             next

@@ -7,6 +7,7 @@ pub const BELOW: u8 = 2;
 pub const IMPLIES: u8 = 3;
 pub const SINCE: u8 = 4;
 pub const WEAK_PREVIOUS: u8 = 5;
+pub const EQUAL_REGISTERS: u8 = 6;
 
 #[derive(Clone, Copy, Default)]
 pub struct Node {
@@ -30,6 +31,11 @@ pub fn bit(node: usize) -> u32 {
     1 << (31 - (node & 31))
 }
 
+/// Whether nodes of a kind have an operand: implies, since and weak previous.
+pub fn has_left(kind: u8) -> bool {
+    kind.wrapping_sub(IMPLIES) <= WEAK_PREVIOUS - IMPLIES
+}
+
 /// The nodes of a set, rising.
 pub fn nodes_of(set: u32) -> impl Iterator<Item = usize> {
     let mut rest = set;
@@ -47,21 +53,21 @@ impl<'a> Rule<'a> {
         if words.is_empty() || words.len() > 32 {
             return no(1, 0);
         }
-        // what each kind leaves unused
-        const UNUSED: [u32; 8] = [0x1fff_ffff, 0x7ff, 0x7ff, 0x1fff_f801, 0x1fff_f801, 0x1fff_f83f, !0, !0];
+        // what each kind leaves unused; of the other register's number, what is above 15
+        const UNUSED: [u32; 8] = [0x1fff_ffff, 0x7ff, 0x7ff, 0x1fff_f801, 0x1fff_f801, 0x1fff_f83f, 0x01ff_87ff, !0];
         let mut nodes = [Node::default(); 32];
         let mut kinds = [0; 8];
         let (mut once, mut twice, mut high) = (0, 0, 0);
         for (i, &w) in words.iter().enumerate() {
             let kind = (w >> 29) as u8;
-            if w & UNUSED[kind as usize] != 0 || kind > WEAK_PREVIOUS {
+            if w & UNUSED[kind as usize] != 0 {
                 return no(2, i);
             }
             let (left, right) = ((w >> 6 & 31) as u8, (w >> 1 & 31) as u8);
             nodes[i] = Node { kind, left, right, register: (w >> 25 & 15) as u8, constant: (w >> 11 & 0x3fff) as u16 };
             kinds[kind as usize] |= bit(i);
             // without an operand nothing is counted
-            let (uses_left, uses_right) = ((kind >= IMPLIES) as u32, (kind == IMPLIES || kind == SINCE) as u32);
+            let (uses_left, uses_right) = (has_left(kind) as u32, (kind == IMPLIES || kind == SINCE) as u32);
             let (l, r) = (uses_left << (31 - left), uses_right << (31 - right));
             twice |= once & l | (once | l) & r;
             once |= l | r;

@@ -16,28 +16,32 @@ pub const C: usize = 7;
 // What each opcode leaves unused; what follows it: 1 the next line, 2 its target.
 const UNUSED: [u32; 16] = {
     let (r, c, t) = (0xf << 24, 0x3fff << 10, 0x3ff);
-    [r | c | t, t, t, t, c | t, 0, 0, r | c, r | c | t, 0xe << 24 | t, r, r, r | t, !0, !0, !0]
+    [r | c | t, t, t, t, c | t, 0, 0, r | c, r | c | t, 0xe << 24 | t, r, r, r | t, 0, !0, !0]
 };
-const FOLLOWS: [u8; 16] = [0, 1, 1, 1, 1, 3, 3, 2, 1, 1, 3, 3, 1, 0, 0, 0];
+const FOLLOWS: [u8; 16] = [0, 1, 1, 1, 1, 3, 3, 2, 1, 1, 3, 3, 1, 3, 0, 0];
+
+/// The opcodes of bare and of annotated scripts, opcode i at bit i.
+pub const BARE: u32 = 0x21ff;
+pub const ANNOTATED: u32 = 0x3fff;
 
 pub fn goes_to_target(word: u32) -> bool {
     FOLLOWS[(word >> 28) as usize] & 2 != 0
 }
 
 /// Question 6 of one line.
-pub fn is_allowed(past: u32, most: u32, word: u32) -> bool {
+pub fn is_allowed(past: u32, opcodes: u32, word: u32) -> bool {
     let op = word >> 28;
     let c = word >> 10 & 0x3fff;
     let names = match op {
-        2 => c < 16,
+        2 | 13 => c < 16,
         9..=12 => c < 32 && past & bit(c as usize) != 0,
         _ => true,
     };
-    op <= most && word & UNUSED[op as usize] == 0 && names
+    opcodes >> op & 1 != 0 && word & UNUSED[op as usize] == 0 && names
 }
 
 /// Questions 5 to 7 of lines that stand `stride` words apart: how many there are.
-pub fn check_code(rule: &Rule, words: &[u32], stride: usize, most: u32) -> Result<usize, No> {
+pub fn check_code(rule: &Rule, words: &[u32], stride: usize, opcodes: u32) -> Result<usize, No> {
     let n = words.len() / stride;
     if words.len() % stride != 0 || n == 0 || n > 1024 {
         return no(5, 0);
@@ -45,7 +49,7 @@ pub fn check_code(rule: &Rule, words: &[u32], stride: usize, most: u32) -> Resul
     let past = rule.past();
     let mut stray = None;
     for (i, &w) in words.iter().step_by(stride).enumerate() {
-        if !is_allowed(past, most, w) {
+        if !is_allowed(past, opcodes, w) {
             return no(6, i);
         }
         let follows = FOLLOWS[(w >> 28) as usize];
@@ -117,7 +121,9 @@ impl<'a> Closing<'a> {
 
     /// The nodes whose test is an instruction's, which has the same fields in the same order.
     fn same_test(&self, word: u32) -> u32 {
-        let stored = (word >> 28) - 4 << 29 | (word >> 10 & 0x3_ffff) << 11;
+        let op = word >> 28;
+        let kind = if op == 13 { 6 } else { op - 4 };
+        let stored = kind << 29 | (word >> 10 & 0x3_ffff) << 11;
         (0..32).fold(0, |set, i| set | if self.words[i] == stored { bit(i) } else { 0 })
     }
 
@@ -182,7 +188,7 @@ impl<'a> Closing<'a> {
                 p[W] = 0;
                 next(&p)
             }
-            5 | 6 => {
+            5 | 6 | 13 => {
                 let tests = self.same_test(word);
                 p[T] |= tests;
                 q[F] |= tests;
@@ -237,7 +243,7 @@ fn line(script: &[u32], i: usize) -> &Line {
 /// Questions 1 to 11: the rule, and how many lines there are.
 pub fn check_script<'a>(words: &'a [u32], script: &[u32]) -> Result<(Rule<'a>, usize), No> {
     let rule = Rule::read(words)?;
-    let n = check_code(&rule, script, 8, 12)?;
+    let n = check_code(&rule, script, 8, ANNOTATED)?;
     let past = rule.past();
     let all = !0 << (32 - rule.count());
     let belong = [!0, all, all, past, past, past, past, past];

@@ -1,6 +1,6 @@
 //! The weaver: the first block is written in place, later ones are copied from it with their targets moved.
-use super::rule::{bit, nodes_of, Rule, BELOW, EQUAL, FALSE, IMPLIES, SINCE};
-use super::script::{check_code, goes_to_target, Line, A, B, C, F, M, T, W};
+use super::rule::{bit, nodes_of, Rule, BELOW, EQUAL, EQUAL_REGISTERS, FALSE, IMPLIES, SINCE};
+use super::script::{check_code, goes_to_target, Line, A, B, BARE, C, F, M, T, W};
 use super::{no, No};
 
 struct Writer<'a> {
@@ -34,6 +34,7 @@ impl Writer<'_> {
         let test = match d.kind {
             FALSE => return self.put((7, 0, 0), not, facts, F, 0),
             EQUAL | BELOW => (d.kind as u32 + 4, d.register as u32, d.constant as usize),
+            EQUAL_REGISTERS => (13, d.register as u32, d.constant as usize),
             IMPLIES => {
                 let left = d.left as usize;
                 self.decide(left, facts, self.at + self.sizes[left & 31], yes);
@@ -95,9 +96,9 @@ impl Writer<'_> {
 /// Questions 1 to 7, 12 and 13, then the lines.
 pub fn weave(words: &[u32], bare: &[u32], out: &mut [u32]) -> Result<usize, No> {
     let rule = Rule::read(words)?;
-    let n = check_code(&rule, bare, 1, 8)?;
+    let n = check_code(&rule, bare, 1, BARE)?;
     let nodes = &rule.nodes[..rule.count()];
-    let block = 1 + nodes.iter().map(|d| [1, 2, 2, 0, 8, 6][d.kind as usize]).sum::<u32>();
+    let block = 1 + nodes.iter().map(|d| [1, 2, 2, 0, 8, 6, 2][d.kind as usize]).sum::<u32>();
     // where each line starts; a short script clears little memory for it
     let (mut few, mut many);
     let starts: &mut [u32] = if n <= 64 {
