@@ -48,17 +48,29 @@ impl Facts {
     }
 }
 
-thread_local! {
-    static PLANTED: Cell<bool> = const { Cell::new(false) };
+/// A fact rule that is made wrong on purpose.
+#[derive(Clone, Copy, Debug, PartialEq, Eq)]
+pub enum Fault {
+    /// 1 to 4 keep W.
+    WorkKept,
+    /// 13 also tells of a node with its registers the other way round.
+    AnyOrder,
 }
 
-/// Runs `work` with one fact rule of this thread's reference made wrong: 1 to 4 keep W. It is there to show that a comparison
-/// notices such a fault.
-pub fn with_planted_fault<X>(work: impl FnOnce() -> X) -> X {
-    PLANTED.with(|p| p.set(true));
+thread_local! {
+    static PLANTED: Cell<Option<Fault>> = const { Cell::new(None) };
+}
+
+/// Runs `work` with one fact rule of this thread's reference made wrong. It is there to show that a comparison notices such a fault.
+pub fn with_planted_fault<X>(fault: Fault, work: impl FnOnce() -> X) -> X {
+    PLANTED.with(|p| p.set(Some(fault)));
     let x = work();
-    PLANTED.with(|p| p.set(false));
+    PLANTED.with(|p| p.set(None));
     x
+}
+
+fn planted(fault: Fault) -> bool {
+    PLANTED.with(Cell::get) == Some(fault)
 }
 
 /// T and F belong to the rule's nodes, the other five to its past nodes only.
@@ -159,7 +171,7 @@ fn pass_open(rule: &Rule, line: &Line, s: Facts) -> (Option<Facts>, Option<Facts
             let mut n = s;
             n.set[T] = 0;
             n.set[F] = 0;
-            if !PLANTED.with(Cell::get) {
+            if !planted(Fault::WorkKept) {
                 n.set[W] = 0;
             }
             (None, Some(n))
@@ -167,7 +179,9 @@ fn pass_open(rule: &Rule, line: &Line, s: Facts) -> (Option<Facts>, Option<Facts
         5 | 6 | 13 => {
             let (mut yes, mut not) = (s, s);
             for (i, d) in rule.nodes.iter().enumerate() {
-                if d.branch() == Some(line.op) && d.register == line.r && d.constant == line.c {
+                let same = d.register == line.r && d.constant == line.c;
+                let swapped = line.op == 13 && d.register as u16 == line.c && d.constant == line.r as u16;
+                if d.branch() == Some(line.op) && (same || swapped && planted(Fault::AnyOrder)) {
                     yes.add(T, i);
                     not.add(F, i);
                 }

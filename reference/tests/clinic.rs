@@ -96,6 +96,31 @@ fn the_longest_script() {
     assert!(out == before);
 }
 
+/// Register 2, the word level, equal to register 1, the carrier level, since register 3 = 1: the list was chosen.
+const SPEECH: [u32; 3] = [0xc400_0800, 0x2600_0800, 0x8000_0002];
+
+/// "input 3, input 1, input 2, if register 2 = register 1 go to 5, input 2, present, go to 0"
+const WORDS: [u32; 7] = [4 << 28 | 3 << 24, 4 << 28 | 1 << 24, 4 << 28 | 2 << 24, 13 << 28 | 2 << 24 | 1 << 10 | 5, 4 << 28 | 2 << 24, 8 << 28, 7 << 28];
+
+/// 2026-01: a word level that is put right is presented; one that stays wrong is not, and the since goes on as if it had not been.
+#[test]
+fn the_speech_test() {
+    let mut script = vec![0; 8 * 19];
+    assert_eq!(weave(&SPEECH, &WORDS, &mut script), Ok(19));
+    assert_eq!(refusal(check_script(&SPEECH, &script)), None);
+    // chosen at 40; 45 as told; 44 for 45, put right; 46 for 45, put to 47; 45 after that; chosen again
+    let inputs = [1, 40, 40, 0, 45, 45, 0, 45, 44, 45, 0, 45, 46, 47, 0, 45, 45, 1, 30, 30];
+    let mut history = vec![7; 80];
+    let r = run(&SPEECH, &script, &inputs, 1000, &mut history).unwrap();
+    assert!(r.stop == Stop::Dry && r.presentations == 5 && r.read == 20);
+    let levels: Vec<u16> = history[..80].chunks(16).map(|s| s[2]).collect();
+    assert_eq!(levels, [40, 45, 45, 45, 30]);
+    // the registers of the block's 13 swapped: 11 at that line
+    assert_eq!(script[8 * 9] >> 28, 13);
+    script[8 * 9] = 13 << 28 | 1 << 24 | 2 << 10 | script[8 * 9] & 0x3ff;
+    assert_eq!(refusal(check_script(&SPEECH, &script)), Some((11, 9)));
+}
+
 fn bytes(words: &[u32]) -> Vec<u8> {
     words.iter().flat_map(|w| w.to_be_bytes()).collect()
 }

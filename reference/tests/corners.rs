@@ -1,5 +1,5 @@
 //! Corners of the questions, the facts and the machine.
-use reference::facts::{close, Facts, T};
+use reference::facts::{close, Facts, F, T};
 use reference::machine::{fresh, nodes_within, run, step_stored, Machine, Stop};
 use reference::rule::check_rule;
 use reference::script::{check_bare, check_script, encode_lines, Line};
@@ -16,8 +16,14 @@ fn refusal<X>(answer: Result<X, No>) -> Option<(u32, usize)> {
 fn rule_questions_in_order() {
     for (words, want) in [
         (&[0; 33][..], (1, 0)),
-        (&[6 << 29], (2, 0)),
         (&[7 << 29], (2, 0)),
+        // the other register of a kind 6, in one pass with the kinds and unused fields
+        (&[6 << 29 | 16 << 11], (2, 0)),
+        (&[6 << 29 | 16_383 << 11], (2, 0)),
+        (&[0, 6 << 29 | 16 << 11, 7 << 29], (2, 1)),
+        (&[1, 6 << 29 | 16 << 11], (2, 0)),
+        (&[6 << 29 | 1 << 6], (2, 0)),
+        (&[6 << 29 | 1 << 1], (2, 0)),
         (&[1], (2, 0)),
         (&[1 << 11], (2, 0)),
         (&[0, 5 << 29 | 1 << 1], (2, 1)),
@@ -29,6 +35,9 @@ fn rule_questions_in_order() {
     ] {
         assert_eq!(refusal(check_rule(words)), Some(want), "{words:x?}");
     }
+    // the last register, and a register with itself
+    assert_eq!(refusal(check_rule(&[6 << 29 | 1 << 25 | 15 << 11])), None);
+    assert_eq!(refusal(check_rule(&[6 << 29 | 1 << 25 | 1 << 11])), None);
 }
 
 /// Instructions alone, as an annotated script that notes nothing.
@@ -44,17 +53,26 @@ fn script_questions_in_order() {
     assert_eq!(unnoted(&[i(9, 1, 2, 0), halt]), None);
     assert_eq!(unnoted(&[i(9, 1, 1, 0), halt]), Some((6, 0)));
     assert_eq!(unnoted(&[i(12, 0, 3, 0), halt]), Some((6, 0)));
-    assert_eq!(unnoted(&[i(13, 0, 0, 0), halt]), Some((6, 0)));
+    assert_eq!(unnoted(&[i(13, 0, 15, 0), halt]), None);
+    assert_eq!(unnoted(&[i(13, 0, 16, 0), halt]), Some((6, 0)));
+    assert_eq!(unnoted(&[i(14, 0, 0, 0), halt]), Some((6, 0)));
+    assert_eq!(unnoted(&[i(15, 0, 0, 0), halt]), Some((6, 0)));
     assert_eq!(unnoted(&[i(2, 0, 16, 0), halt]), Some((6, 0)));
     // 6 is put to the whole before 7
     assert_eq!(unnoted(&[i(6, 0, 0, 9), i(15, 0, 0, 0)]), Some((6, 1)));
     // r < 0 never holds, both ways all the same
     assert_eq!(unnoted(&[i(6, 0, 0, 9), halt]), Some((7, 0)));
     assert_eq!(unnoted(&[i(6, 0, 0, 0)]), Some((7, 0)));
+    // a register with itself always holds, both ways all the same
+    assert_eq!(unnoted(&[i(13, 1, 1, 0)]), Some((7, 0)));
+    assert_eq!(unnoted(&[i(13, 1, 1, 9), halt]), Some((7, 0)));
     assert_eq!(unnoted(&[i(7, 0, 0, 0)]), None);
     assert_eq!(unnoted(&vec![halt; 1025]), Some((5, 0)));
     assert_eq!(unnoted(&vec![halt; 1024]), None);
-    assert_eq!(refusal(check_bare(&SINCE, &[i(9, 1, 2, 0).word(), 0])), Some((6, 0)));
+    assert_eq!(refusal(check_bare(&SINCE, &[i(13, 1, 2, 1).word(), 0])), None);
+    for op in [9, 10, 11, 12, 14, 15] {
+        assert_eq!(refusal(check_bare(&SINCE, &[i(op, 0, 2, 0).word(), 0])), Some((6, 0)));
+    }
     assert_eq!(refusal(check_script(&SINCE, &[0; 7])), Some((5, 0)));
     assert_eq!(refusal(check_script(&SINCE, &[0; 9])), Some((5, 0)));
 }
@@ -71,11 +89,26 @@ fn first_facts() {
 
 #[test]
 fn target_is_next_line() {
-    // "if register 1 = 1 go to 1" at line 0: line 1 may note neither T nor F of the test
-    for (fact, want) in [(None, None), (Some(0), Some((11, 0))), (Some(1), Some((11, 0)))] {
-        let facts = fact.map_or(Facts::none(), |f| Facts::none().with(f, 0));
-        let lines = [Line::new(5, 1, 1, 1), Line { facts, ..Line::new(0, 0, 0, 0) }];
-        assert_eq!(refusal(check_script(&[0x2200_0800], &encode_lines(&lines))), want);
+    // "if register 1 = 1 go to 1" at line 0, and "if register 1 = register 2": line 1 may note neither T nor F of the test
+    for (rule, branch) in [(0x2200_0800, Line::new(5, 1, 1, 1)), (0xc200_1000, Line::new(13, 1, 2, 1))] {
+        for (fact, want) in [(None, None), (Some(0), Some((11, 0))), (Some(1), Some((11, 0)))] {
+            let facts = fact.map_or(Facts::none(), |f| Facts::none().with(f, 0));
+            let lines = [branch, Line { facts, ..Line::new(0, 0, 0, 0) }];
+            assert_eq!(refusal(check_script(&[rule], &encode_lines(&lines))), want);
+        }
+    }
+}
+
+#[test]
+fn registers_in_the_same_order() {
+    // register 1 = register 2 is told by 13 1 2, and by neither 13 2 1 nor 5 1 2
+    for (branch, want) in [(Line::new(13, 1, 2, 2), None), (Line::new(13, 2, 1, 2), Some((11, 0))), (Line::new(5, 1, 2, 2), Some((11, 0)))] {
+        for fact in [T, F] {
+            let noted = Line { facts: Facts::none().with(fact, 0), ..Line::new(0, 0, 0, 0) };
+            let plain = Line::new(0, 0, 0, 0);
+            let lines = if fact == T { [branch, plain, noted] } else { [branch, noted, plain] };
+            assert_eq!(refusal(check_script(&[0xc200_1000], &encode_lines(&lines))), want);
+        }
     }
 }
 
@@ -109,7 +142,7 @@ fn steps_that_cannot_be_run() {
     // a line that is not there, a word that question 6 turns away, more presentations than there is room for
     let far = Machine { line: u64::MAX, ..start.clone() };
     assert_eq!(step_stored(&SINCE, &present, &[], &mut history, far.clone()), far);
-    assert_eq!(step_stored(&SINCE, &[13 << 28; 8], &[], &mut history, start.clone()), start);
+    assert_eq!(step_stored(&SINCE, &[14 << 28; 8], &[], &mut history, start.clone()), start);
     let many = Machine { presentations: u64::MAX, ..start.clone() };
     assert_eq!(step_stored(&SINCE, &present, &[], &mut history, many.clone()), many);
     assert_eq!(history, [9; 32]);

@@ -86,7 +86,7 @@ fn woven_scripts() {
 /// plain end with the same history, dials and inputs read.
 #[test]
 fn every_small_rule() {
-    let leaves = [Node::new(0, 0, 0, 0, 0), Node::new(1, 0, 1, 0, 0), Node::new(2, 1, 1, 0, 0)];
+    let leaves = [Node::new(0, 0, 0, 0, 0), Node::new(1, 0, 1, 0, 0), Node::new(2, 1, 1, 0, 0), Node::new(6, 0, 1, 0, 0)];
     let bare = [Line::new(4, 0, 0, 0), Line::new(4, 1, 0, 0), Line::new(8, 0, 0, 0), Line::new(7, 0, 0, 0)];
     let mut tables: Vec<Vec<Node>> = vec![vec![]];
     for n in 1..=4usize {

@@ -19,13 +19,20 @@ pub const R4: &[u32] = &[
     0xa000_0440, 0x520f_a000, 0xa000_04c0, 0x6000_04a8, 0x8000_042a, 0x3400_0000, 0x567d_0000, 0x8000_05f0, 0x5803_2000,
     0xa000_0680, 0x6000_0676, 0x8000_05b8, 0x6000_03fa, 0x6000_01fc,
 ];
-pub const RULES: [(&str, &[u32]); 4] = [("R1", R1), ("R2", R2), ("R3", R3), ("R4", R4)];
+/// Two registers equal since a third was 1.
+pub const R5: &[u32] = &[0xc400_0800, 0x2600_0800, 0x8000_0002];
+pub const RULES: [(&str, &[u32]); 5] = [("R1", R1), ("R2", R2), ("R3", R3), ("R4", R4), ("R5", R5)];
 
-/// Numbers about the constants of a register's tests, so that each test is true about half of the time.
+/// Numbers about the constants of a register's tests, 0 or 1 where it is compared with another register, so that each test is true
+/// about half of the time.
 fn random_state(g: &mut Rng, rule: &Rule) -> State {
     std::array::from_fn(|register| {
-        let tests = rule.nodes.iter().filter(|d| d.branch().is_some() && d.register as usize == register);
-        let about: Vec<u16> = tests.flat_map(|d| [d.constant.saturating_sub(1), d.constant]).collect();
+        let tests = rule.nodes.iter().flat_map(|d| match d.kind {
+            1 | 2 if d.register as usize == register => vec![d.constant.saturating_sub(1), d.constant],
+            6 if [d.register as usize, d.constant as usize].contains(&register) => vec![0, 1],
+            _ => vec![],
+        });
+        let about: Vec<u16> = tests.collect();
         if about.is_empty() {
             g.below(16_384) as u16
         } else {

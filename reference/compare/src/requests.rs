@@ -190,7 +190,7 @@ fn annotated(g: &mut Rng, rule: &Rule, spoiled: usize) -> Vec<u32> {
     }
     let mut words = encode_lines(&lines);
     if g.chance(spoiled, 100) {
-        match g.below(16) {
+        match g.below(18) {
             0 => words.clear(),
             1 => lengthen(g, &mut words),
             2 => {
@@ -216,6 +216,14 @@ fn annotated(g: &mut Rng, rule: &Rule, spoiled: usize) -> Vec<u32> {
                 if !kept.is_empty() {
                     let (at, facts) = g.pick(&kept);
                     words[at] |= facts;
+                }
+            }
+            // a 13's registers the other way round
+            15 | 16 => {
+                let compared: Vec<usize> = (0..lines.len()).filter(|&i| lines[i].op == 13).collect();
+                if !compared.is_empty() {
+                    let i = g.pick(&compared);
+                    words[8 * i] = Line::new(13, lines[i].c as u8, lines[i].r as u16, lines[i].target).word();
                 }
             }
             _ => spoil(g, &mut words),

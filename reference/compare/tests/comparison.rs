@@ -1,9 +1,12 @@
 //! The comparison: every function of `include/guard.h` and the reference agree on random requests.
 //! GUARD_SEED and GUARD_REQUESTS set the seed and the number of requests; a request for steps makes several calls.
 use compare::compare::{compare, put, Met};
-use compare::requests::request;
+use compare::requests::{request, Request};
 use compare::{faced, proved};
-use reference::facts::with_planted_fault;
+use reference::facts::{with_planted_fault, Fault};
+use reference::rule::check_rule;
+use reference::script::{check_bare, check_script};
+use std::collections::BTreeMap;
 use std::env;
 
 const SEED: u64 = 20_261_115;
@@ -36,17 +39,60 @@ fn proved_and_reference_agree() {
     }
 }
 
-/// One fact rule of the reference made wrong (1 to 4 keep W): the comparison notices. The requests are made without the fault, so that
-/// they are those of the comparison.
+/// One fact rule of the reference made wrong: the comparison notices. The requests are made without the fault, so that they are those of
+/// the comparison.
 #[test]
-fn planted_fault_is_noticed() {
-    let mut met = Met::default();
-    let noticed = (0..REQUESTS).find(|&n| {
-        let asked = request(SEED, n);
-        with_planted_fault(|| put(&asked, &mut met)).is_err()
-    });
-    println!("request {}", noticed.expect("the planted fault is noticed"));
-    compare(SEED, 2_000).expect("without it there is no difference");
+fn planted_faults_are_noticed() {
+    for fault in [Fault::WorkKept, Fault::AnyOrder] {
+        let mut met = Met::default();
+        let noticed = (0..REQUESTS).find(|&n| {
+            let asked = request(SEED, n);
+            with_planted_fault(fault, || put(&asked, &mut met)).is_err()
+        });
+        println!("{fault:?}: request {}", noticed.unwrap_or_else(|| panic!("{fault:?} is not noticed")));
+    }
+    compare(SEED, 2_000).expect("without them there is no difference");
+}
+
+/// The requests compare two registers often: as they should, with a number above 15, and with facts that are not told.
+#[test]
+fn two_registers_are_compared() {
+    let mut met: BTreeMap<&str, u32> = BTreeMap::new();
+    for n in 0..60_000 {
+        let (rule, script, annotated) = match request(SEED, n) {
+            Request::Rule { rule, .. } | Request::Judge { rule, .. } => (rule, None, false),
+            Request::Bare { rule, script, .. } | Request::Weave { rule, bare: script, .. } => (rule, Some(script), false),
+            Request::Script { rule, script, .. } | Request::Run { rule, script, .. } => (rule, Some(script), true),
+            _ => continue,
+        };
+        let stride = if annotated { 8 } else { 1 };
+        let compares = |w: u32| w >> 28 == 13;
+        let names = match check_rule(&rule) {
+            Ok(_) if rule.iter().any(|w| w >> 29 == 6) => Some("a rule that passes"),
+            Err(no) if no.number == 2 && rule[no.place] >> 29 == 6 && rule[no.place] >> 11 & 0x3fff > 15 => Some("a node's number above 15"),
+            _ => None,
+        };
+        let told = script.and_then(|script| {
+            let answer = if annotated { check_script(&rule, &script).err() } else { check_bare(&rule, &script).err() };
+            match answer {
+                None if script.iter().step_by(stride).any(|&w| compares(w)) => Some("a script that passes"),
+                Some(no) if matches!(no.number, 6 | 11) => {
+                    let word = script[stride * no.place];
+                    match no.number {
+                        6 if compares(word) && word >> 10 & 0x3fff > 15 => Some("a line's number above 15"),
+                        11 if compares(word) => Some("facts that such a line does not tell"),
+                        _ => None,
+                    }
+                }
+                _ => None,
+            }
+        });
+        for name in names.into_iter().chain(told) {
+            *met.entry(name).or_default() += 1;
+        }
+    }
+    println!("{met:?}");
+    assert!(met.len() == 5 && met.values().all(|&n| n >= 100), "{met:?}");
 }
 
 /// Every length of lent numbers, from none to two more than are needed, for answers of each kind.
