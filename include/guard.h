@@ -24,9 +24,11 @@
  *
  * FORMATS. A rule is 1 to 32 nodes, one 32-bit word each, from the most significant bit: kind 3 bits, register 4, constant 14,
  * left 5, right 5, a zero bit; an operand is a node's number, from 0. A bare script is 1 to 1,024 lines of one 32-bit word:
- * opcode 4 bits, r 4, c 14, target 10; opcodes 0 to 8. An annotated script has eight words a line: the instruction, opcodes 0 to
- * 12, and seven sets of facts in the order T, F, A, B, M, W, C, node 0 at the most significant bit. A history has 16 numbers for
- * each presentation, the registers at that time, each at most 16,383.
+ * opcode 4 bits, r 4, c 14, target 10; opcodes 0 to 8 and 13. An annotated script has eight words a line: the instruction, opcodes
+ * 0 to 13, and seven sets of facts in the order T, F, A, B, M, W, C, node 0 at the most significant bit. A node of kind 6 is true if
+ * its register equals the one whose number, 0 to 15, is in its constant; an instruction of opcode 13 goes to its target if register
+ * r equals the one whose number is in c. A history has 16 numbers for each presentation, the registers at that time, each at most
+ * 16,383.
  *
  * STACK. A proof knows nothing of the stack, so what a call takes was measured: on a painted stack, with rules as deeply nested as
  * question 4 allows, full scripts and random requests (reference/compare/tests/stack.rs, which also holds enum guard_stack to it).
@@ -48,7 +50,7 @@ extern "C" {
 enum guard_question {
     GUARD_YES = 0,                /* every question has a yes */
     GUARD_NODE_COUNT = 1,         /* has the rule 1 to 32 nodes? */
-    GUARD_NODE_FIELDS = 2,        /* are kinds 0 to 5 and unused fields zero? (node) */
+    GUARD_NODE_FIELDS = 2,        /* are kinds 0 to 6, unused fields zero, register in the constant at most 15? (node) */
     GUARD_NODE_OPERANDS = 3,      /* are operands lower than their node? (node) */
     GUARD_NODE_USED_ONCE = 4,     /* is each node but the last an operand exactly once? (node) */
     GUARD_LINE_COUNT = 5,         /* has the script 1 to 1,024 whole lines? */
