@@ -10,12 +10,12 @@
 use mathlib.Core.Path.{_≡_, refl, sym, ap, ap₂, subst, _∙_}
 use mathlib.Core.Bool.{true, false}
 use mathlib.Core.List.{List, [], _∷_, _++_, append-assoc}
-use Prim.Native.Nat.{ℕ, zero, suc, _+_, _-_, _*_, _<_}
+use Prim.Native.Nat.{ℕ, _+_, _-_, _*_, _<_}
 use native.Mathlib.Omega.{arith}
 use lib.ListN.{length, getD, drop, length-drop, length-append}
 use lib.Dec.{ltb}
 use Rattle.spec.specs.Questions.{all}
-use Rattle.spec.specs.Rule.{form32, field, nodeFields, sinceNode, weakPreviousNode, nodeOf, Table, nodeAt, operands}
+use Rattle.spec.specs.Rule.{form32, field, nodeFields, sinceNode, weakPreviousNode, Table, nodeAt, operands}
 use Rattle.spec.specs.Script.{Instruction, wordFor}
 use Rattle.spec.specs.Facts.{valueIs, priorIs, Facts, _∪_, one}
 use Rattle.spec.specs.Weaver.{line, decideSize, decide, setting, update, updateSize}
