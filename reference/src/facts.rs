@@ -48,20 +48,24 @@ impl Facts {
     }
 }
 
-/// A fact rule that is made wrong on purpose.
+/// A rule of the reference that is made wrong on purpose.
 #[derive(Clone, Copy, Debug, PartialEq, Eq)]
 pub enum Fault {
-    /// 1 to 4 keep W.
+    /// Register writes keep W.
     WorkKept,
     /// 13 also tells of a node with its registers the other way round.
     AnyOrder,
+    /// 3 goes round at the upper end.
+    RaisedRound,
+    /// 14 goes round at the lower end.
+    LoweredRound,
 }
 
 thread_local! {
     static PLANTED: Cell<Option<Fault>> = const { Cell::new(None) };
 }
 
-/// Runs `work` with one fact rule of this thread's reference made wrong. It is there to show that a comparison notices such a fault.
+/// Runs `work` with one rule of this thread's reference made wrong. It is there to show that a comparison notices such a fault.
 pub fn with_planted_fault<X>(fault: Fault, work: impl FnOnce() -> X) -> X {
     PLANTED.with(|p| p.set(Some(fault)));
     let x = work();
@@ -69,7 +73,7 @@ pub fn with_planted_fault<X>(fault: Fault, work: impl FnOnce() -> X) -> X {
     x
 }
 
-fn planted(fault: Fault) -> bool {
+pub(crate) fn planted(fault: Fault) -> bool {
     PLANTED.with(Cell::get) == Some(fault)
 }
 
@@ -167,7 +171,7 @@ fn pass_open(rule: &Rule, line: &Line, s: Facts) -> (Option<Facts>, Option<Facts
     let c = line.c as usize;
     match line.op {
         0 => (None, None),
-        1..=4 => {
+        1..=4 | 14 => {
             let mut n = s;
             n.set[T] = 0;
             n.set[F] = 0;

@@ -3,7 +3,7 @@
 use crate::random::Rng;
 use crate::rule::{check_rule, Node, Rule};
 use crate::script::{check_bare, instruction_words, Line};
-use crate::State;
+use crate::{State, TOP};
 
 pub const REGISTERS: usize = 3;
 pub const CONSTANTS: usize = 4;
@@ -52,13 +52,23 @@ pub fn rule_size(g: &mut Rng) -> usize {
     }
 }
 
+/// What to raise or lower a register by: little, or so much that an end is near.
+pub fn amount(g: &mut Rng) -> u16 {
+    let c = g.below(CONSTANTS) as u16;
+    if g.chance(1, 4) {
+        TOP - c
+    } else {
+        c
+    }
+}
+
 /// A bare script of n lines.
 pub fn bare(g: &mut Rng, rule: &Rule, n: usize) -> Vec<Line> {
     let mut lines = vec![];
     for i in 0..n {
         let last = i + 1 == n;
         let op = loop {
-            let op = g.pick(&[0, 1, 2, 3, 4, 4, 4, 4, 5, 6, 7, 7, 8, 8, 8, 8, 13, 13]);
+            let op = g.pick(&[0, 1, 2, 3, 4, 4, 4, 4, 5, 6, 7, 7, 8, 8, 8, 8, 13, 13, 14]);
             if (!last || matches!(op, 0 | 7)) && (op != 0 || last || g.chance(1, 4)) {
                 break op;
             }
@@ -70,7 +80,7 @@ pub fn bare(g: &mut Rng, rule: &Rule, n: usize) -> Vec<Line> {
             0 | 8 => Line::new(op, 0, 0, 0),
             1 => Line::new(op, r, c, 0),
             2 => Line::new(op, r, g.below(REGISTERS) as u16, 0),
-            3 => Line::new(op, r, if g.chance(1, 10) { 16_383 - c } else { c }, 0),
+            3 | 14 => Line::new(op, r, amount(g), 0),
             4 => Line::new(op, r, 0, 0),
             5 | 6 => Line::new(op, r, c, t),
             13 => Line::new(op, r, g.below(REGISTERS) as u16, t),
@@ -82,7 +92,7 @@ pub fn bare(g: &mut Rng, rule: &Rule, n: usize) -> Vec<Line> {
 
 pub fn inputs(g: &mut Rng) -> Vec<u16> {
     let n = g.below(40);
-    (0..n).map(|_| if g.chance(1, 50) { 16_383 } else { g.below(CONSTANTS) as u16 }).collect()
+    (0..n).map(|_| if g.chance(1, 50) { TOP } else { g.below(CONSTANTS) as u16 }).collect()
 }
 
 pub fn history(g: &mut Rng, most: usize) -> Vec<State> {

@@ -1,4 +1,5 @@
 //! One step, and the run.
+use crate::facts::{planted, Fault};
 use crate::judge::check_numbers;
 use crate::rule::{Node, MOST_NODES};
 use crate::script::{annotated_opcode, check_script, fields_allowed, Line};
@@ -48,15 +49,18 @@ pub fn stuck(l: &Line, m: &Machine, inputs: &[u16], space: usize) -> Option<Stop
     }
 }
 
-/// The dials after a register write (opcodes 1 to 4); `input` is the number an input would take.
+/// The dials after a register write (opcodes 1 to 4 and 14); `input` is the number an input would take. 3 and 14 stop at their ends.
 pub fn write(l: &Line, dials: &State, input: u16) -> State {
     let mut d = *dials;
     let r = l.r as usize;
     d[r] = match l.op {
         1 => l.c,
         2 => dials[l.c as usize],
-        3 => ((dials[r] as u32 + l.c as u32) % (TOP as u32 + 1)) as u16,
+        3 if planted(Fault::RaisedRound) => (dials[r] as u32 + l.c as u32) as u16 & TOP,
+        3 => dials[r].saturating_add(l.c).min(TOP),
         4 => input,
+        14 if planted(Fault::LoweredRound) => dials[r].wrapping_sub(l.c) & TOP,
+        14 => dials[r].saturating_sub(l.c),
         _ => unreachable!(),
     };
     d
@@ -84,7 +88,7 @@ impl Machine {
         let c = l.c as usize;
         m.line = next;
         match l.op {
-            1..=3 => m.dials = write(l, &m.dials, 0),
+            1..=3 | 14 => m.dials = write(l, &m.dials, 0),
             4 => {
                 m.dials = write(l, &m.dials, inputs[m.read as usize]);
                 m.read += 1;

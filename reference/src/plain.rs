@@ -23,7 +23,7 @@ impl Plain {
         let mut p = self.clone();
         match l.op {
             0 => return (p, false),
-            1..=3 => {
+            1..=3 | 14 => {
                 p.dials = write(l, &self.dials, 0);
                 p.line += 1;
             }

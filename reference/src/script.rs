@@ -56,11 +56,11 @@ impl Line {
 
 /// The opcodes of bare scripts, and of annotated ones.
 pub fn bare_opcode(op: u8) -> bool {
-    matches!(op, 0..=8 | 13)
+    matches!(op, 0..=8 | 13 | 14)
 }
 
 pub fn annotated_opcode(op: u8) -> bool {
-    op <= 13
+    op <= 14
 }
 
 /// Question 6 for one line: opcode allowed, unused fields zero, register in c at most 15, node in c a past node, set bit 0 or 1.
@@ -70,7 +70,7 @@ pub fn fields_allowed(nodes: &[Node], opcode_allowed: fn(u8) -> bool, l: &Line) 
     opcode_allowed(l.op)
         && match l.op {
             0 | 8 => r0 && c0 && t0,
-            1 | 3 => t0,
+            1 | 3 | 14 => t0,
             2 => t0 && l.c <= 15,
             4 => c0 && t0,
             5 | 6 => true,

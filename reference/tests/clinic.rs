@@ -2,8 +2,9 @@
 use reference::judge::judge;
 use reference::listing::listing;
 use reference::machine::{run, Stop};
+use reference::plain;
 use reference::rule::check_rule;
-use reference::script::{check_bare, check_script};
+use reference::script::{check_bare, check_script, Line};
 use reference::weave::weave;
 use reference::{no, No};
 
@@ -119,6 +120,42 @@ fn the_speech_test() {
     assert_eq!(script[8 * 9] >> 28, 13);
     script[8 * 9] = 13 << 28 | 1 << 24 | 2 << 10 | script[8 * 9] & 0x3ff;
     assert_eq!(refusal(check_script(&SPEECH, &script)), Some((11, 9)));
+}
+
+/// Register 1, the level, under 16,383 since it was 16,000.
+const LEVEL: [u32; 3] = [0x43ff_f800, 0x23f4_0000, 0x8000_0002];
+
+/// From 16,000 up by 200, presented at each level until the end, then down by 8,000 to the other end and presented there.
+const SWEEP: [(u32, u32, u32, u32); 11] = [
+    (1, 1, 16_000, 0),
+    (8, 0, 0, 0),
+    (3, 1, 200, 0),
+    (5, 1, 16_383, 5),
+    (7, 0, 0, 1),
+    (8, 0, 0, 0),
+    (14, 1, 8_000, 0),
+    (8, 0, 0, 0),
+    (5, 1, 0, 10),
+    (7, 0, 0, 6),
+    (0, 0, 0, 0),
+];
+
+/// 2026-02: a level stepped up at the top stays at the top, one stepped down at the bottom at the bottom.
+#[test]
+fn the_sweep() {
+    let bare = SWEEP.map(|(op, r, c, target)| op << 28 | r << 24 | c << 10 | target);
+    let mut script = vec![0; 8 * 47];
+    assert_eq!(weave(&LEVEL, &bare, &mut script), Ok(47));
+    let mut history = vec![7; 96];
+    let r = run(&LEVEL, &script, &[], 1000, &mut history).unwrap();
+    assert!(r.stop == Stop::Halted && r.presentations == 5 && r.dials[1] == 0);
+    let levels: Vec<u16> = history[..80].chunks(16).map(|s| s[1]).collect();
+    assert_eq!(levels, [16_000, 16_200, 8_383, 383, 0]);
+    // and the plain machine the same
+    let rule = check_rule(&LEVEL).unwrap();
+    let lines = bare.map(Line::decode);
+    let p = (0..40).fold(plain::start(), |p, _| p.step(&rule, &lines, &[], 96).0);
+    assert!(p.line == 10 && p.history.iter().map(|s| s[1]).eq(levels));
 }
 
 fn bytes(words: &[u32]) -> Vec<u8> {

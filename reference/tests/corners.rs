@@ -1,5 +1,5 @@
 //! Corners of the questions, the facts and the machine.
-use reference::facts::{close, Facts, F, T};
+use reference::facts::{close, pass, Facts, A, B, C, F, M, T, W};
 use reference::machine::{fresh, nodes_within, run, step_stored, Machine, Stop};
 use reference::rule::check_rule;
 use reference::script::{check_bare, check_script, encode_lines, Line};
@@ -55,7 +55,9 @@ fn script_questions_in_order() {
     assert_eq!(unnoted(&[i(12, 0, 3, 0), halt]), Some((6, 0)));
     assert_eq!(unnoted(&[i(13, 0, 15, 0), halt]), None);
     assert_eq!(unnoted(&[i(13, 0, 16, 0), halt]), Some((6, 0)));
-    assert_eq!(unnoted(&[i(14, 0, 0, 0), halt]), Some((6, 0)));
+    assert_eq!(unnoted(&[i(14, 15, 16_383, 0), halt]), None);
+    assert_eq!(unnoted(&[i(14, 0, 0, 1), halt]), Some((6, 0)));
+    assert_eq!(unnoted(&[i(14, 0, 0, 0)]), Some((7, 0)));
     assert_eq!(unnoted(&[i(15, 0, 0, 0), halt]), Some((6, 0)));
     assert_eq!(unnoted(&[i(2, 0, 16, 0), halt]), Some((6, 0)));
     // 6 is put to the whole before 7
@@ -70,7 +72,8 @@ fn script_questions_in_order() {
     assert_eq!(unnoted(&vec![halt; 1025]), Some((5, 0)));
     assert_eq!(unnoted(&vec![halt; 1024]), None);
     assert_eq!(refusal(check_bare(&SINCE, &[i(13, 1, 2, 1).word(), 0])), None);
-    for op in [9, 10, 11, 12, 14, 15] {
+    assert_eq!(refusal(check_bare(&SINCE, &[i(14, 1, 2, 0).word(), 0])), None);
+    for op in [9, 10, 11, 12, 15] {
         assert_eq!(refusal(check_bare(&SINCE, &[i(op, 0, 2, 0).word(), 0])), Some((6, 0)));
     }
     assert_eq!(refusal(check_script(&SINCE, &[0; 7])), Some((5, 0)));
@@ -142,11 +145,48 @@ fn steps_that_cannot_be_run() {
     // a line that is not there, a word that question 6 turns away, more presentations than there is room for
     let far = Machine { line: u64::MAX, ..start.clone() };
     assert_eq!(step_stored(&SINCE, &present, &[], &mut history, far.clone()), far);
-    assert_eq!(step_stored(&SINCE, &[14 << 28; 8], &[], &mut history, start.clone()), start);
+    assert_eq!(step_stored(&SINCE, &[15 << 28; 8], &[], &mut history, start.clone()), start);
     let many = Machine { presentations: u64::MAX, ..start.clone() };
     assert_eq!(step_stored(&SINCE, &present, &[], &mut history, many.clone()), many);
     assert_eq!(history, [9; 32]);
     let once = Machine { presentations: 1, ..start };
     let after = step_stored(&SINCE, &present, &[], &mut history, once);
     assert!(after.presentations == 2 && after.line == 1 && history[..16] == [9; 16] && history[16..] == [0; 16]);
+}
+
+#[test]
+fn registers_stop_at_their_ends() {
+    // 16,384 and above: no run has such a register
+    for (op, before, c, after) in [
+        (3, 16_000, 382, 16_382),
+        (3, 16_000, 383, 16_383),
+        (3, 16_000, 384, 16_383),
+        (3, 16_383, 16_383, 16_383),
+        (3, 65_535, 16_383, 16_383),
+        (3, 16_384, 0, 16_383),
+        (14, 384, 383, 1),
+        (14, 384, 384, 0),
+        (14, 384, 385, 0),
+        (14, 0, 16_383, 0),
+        (14, 60_000, 5, 59_995),
+    ] {
+        let mut start = fresh(&nodes_within(&SINCE));
+        start.dials[1] = before;
+        let moved = step_stored(&SINCE, &Line::new(op, 1, c, 0).encode_annotated(), &[], &mut [], start);
+        assert!(moved.dials[1] == after && moved.line == 1, "{op}: {before} by {c}");
+    }
+}
+
+#[test]
+fn lowering_drops_what_other_register_writes_drop() {
+    // weak previous of register 1 = 1: T and F of the test, W, A, B, M and C of the weak previous
+    let rule = check_rule(&[0x2200_0800, 5 << 29]).unwrap();
+    for op in [1, 2, 3, 4, 14] {
+        for (fact, node) in [(T, 0), (F, 0), (W, 1), (A, 1), (B, 1), (M, 1), (C, 1)] {
+            let noted = Facts::none().with(fact, node);
+            let passed = pass(&rule, &Line { facts: noted, ..Line::new(op, 1, 0, 0) });
+            let kept = passed.next.is_some_and(|f| noted.among(&f));
+            assert_eq!(kept, !matches!(fact, T | F | W), "{op} {fact}");
+        }
+    }
 }

@@ -114,7 +114,7 @@ fn noted_most(g: &mut Rng, rule: &Rule) -> Vec<Line> {
         let target = if g.chance(1, 6) && !last { i + 1 } else { g.below(n) } as u16;
         let r = g.below(generate::REGISTERS) as u8;
         let c = g.below(generate::CONSTANTS) as u16;
-        let op = if last { g.pick(&[0, 7]) } else { g.pick(&[1, 2, 3, 4, 5, 6, 7, 8, 8, 8, 9, 9, 10, 10, 11, 11, 12, 12, 13, 13]) };
+        let op = if last { g.pick(&[0, 7]) } else { g.pick(&[1, 2, 3, 4, 5, 6, 7, 8, 8, 8, 9, 9, 10, 10, 11, 11, 12, 12, 13, 13, 14]) };
         let of_node = matches!(op, 9..=12);
         if of_node && past.is_empty() {
             lines.push(Line::new(7, 0, 0, target));
@@ -128,7 +128,8 @@ fn noted_most(g: &mut Rng, rule: &Rule) -> Vec<Line> {
         };
         lines.push(match op {
             0 | 8 => Line::new(op, 0, 0, 0),
-            1..=3 => Line::new(op, r, c, 0),
+            1 | 2 => Line::new(op, r, c, 0),
+            3 | 14 => Line::new(op, r, generate::amount(g), 0),
             4 => Line::new(op, r, 0, 0),
             // a test of the rule, often
             5 | 6 | 13 => match rule.nodes.iter().filter(|d| d.branch() == Some(op)).nth(g.below(3)) {

@@ -39,11 +39,11 @@ fn proved_and_reference_agree() {
     }
 }
 
-/// One fact rule of the reference made wrong: the comparison notices. The requests are made without the fault, so that they are those of
+/// One rule of the reference made wrong: the comparison notices. The requests are made without the fault, so that they are those of
 /// the comparison.
 #[test]
 fn planted_faults_are_noticed() {
-    for fault in [Fault::WorkKept, Fault::AnyOrder] {
+    for fault in [Fault::WorkKept, Fault::AnyOrder, Fault::RaisedRound, Fault::LoweredRound] {
         let mut met = Met::default();
         let noticed = (0..REQUESTS).find(|&n| {
             let asked = request(SEED, n);
@@ -93,6 +93,65 @@ fn two_registers_are_compared() {
     }
     println!("{met:?}");
     assert!(met.len() == 5 && met.values().all(|&n| n >= 100), "{met:?}");
+}
+
+/// What a 3 or a 14 meets: an end of its register, or a register that no run has.
+fn end_met(before: u64, word: u32) -> Option<&'static str> {
+    let c = (word >> 10 & 0x3fff) as u64;
+    match word >> 28 {
+        3 if before > 16_383 => Some("3 on a register that no run has"),
+        3 if before + c == 16_383 => Some("3 to the end exactly"),
+        3 if before + c == 16_384 => Some("3 to one above the end"),
+        3 if before + c > 16_384 => Some("3 to far above the end"),
+        14 if before > 16_383 => Some("14 on a register that no run has"),
+        14 if before == c => Some("14 to the end exactly"),
+        14 if before + 1 == c => Some("14 to one below the end"),
+        14 if before < c => Some("14 to far below the end"),
+        _ => None,
+    }
+}
+
+/// What so many steps meet.
+fn ends_met(rule: &[u32], script: &[u32], inputs: &[u16], mut history: Vec<u16>, mut state: Vec<u64>, count: usize) -> Vec<&'static str> {
+    let mut met = vec![];
+    for _ in 0..count {
+        let before = state.clone();
+        faced::step(rule, script, inputs, &mut history, &mut state);
+        if state == before {
+            break;
+        }
+        let word = script[8 * before[0] as usize];
+        met.extend(end_met(before[5 + (word >> 24 & 15) as usize], word));
+    }
+    met
+}
+
+/// The runs and steps asked for meet both ends of a register in every way; the scripts have 14s that pass and that are refused.
+#[test]
+fn registers_meet_their_ends() {
+    let mut met: BTreeMap<&str, u32> = BTreeMap::new();
+    for n in 0..60_000 {
+        let names = match request(SEED, n) {
+            Request::Bare { rule, script, .. } => match check_bare(&rule, &script) {
+                Ok(_) if script.iter().any(|w| w >> 28 == 14) => vec!["a bare script with a 14"],
+                Err(no) if no.number == 6 && script[no.place] >> 28 == 14 => vec!["a bare script's 14 refused"],
+                Err(no) if no.number == 6 && script[no.place] >> 28 == 15 => vec!["a bare script's 15 refused"],
+                _ => vec![],
+            },
+            Request::Run { rule, script, inputs, history, .. } if check_script(&rule, &script).is_ok() => {
+                let mut start = vec![0; 21];
+                faced::fresh(&rule, &mut start);
+                ends_met(&rule, &script, &inputs, history, start, 100)
+            }
+            Request::Steps { rule, script, inputs, history, state, count } => ends_met(&rule, &script, &inputs, history, state, count),
+            _ => vec![],
+        };
+        for name in names {
+            *met.entry(name).or_default() += 1;
+        }
+    }
+    println!("{met:?}");
+    assert!(met.len() == 11 && met.values().all(|&n| n >= 50), "{met:?}");
 }
 
 /// Every length of lent numbers, from none to two more than are needed, for answers of each kind.

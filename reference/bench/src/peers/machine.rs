@@ -57,7 +57,7 @@ pub fn run(words: &[u32], script: &[u32], inputs: &[u16], budget: u64, history: 
                 false
             }
             3 => {
-                r[k] = (r[k] + l.c) & 16_383;
+                r[k] = (r[k] + l.c).min(16_383);
                 false
             }
             4 => {
@@ -82,6 +82,10 @@ pub fn run(words: &[u32], script: &[u32], inputs: &[u16], budget: u64, history: 
             10 => kept & node != 0,
             11 => work & node != 0,
             13 => r[k] == r[l.c as usize & 15],
+            14 => {
+                r[k] = r[k].saturating_sub(l.c);
+                false
+            }
             _ => {
                 kept = kept & !node | work & node;
                 false
@@ -130,7 +134,7 @@ pub fn step(rule: &[u32], script: &[u32], inputs: &[u16], history: &mut [u16], s
             next
         }
         3 => {
-            registers[r] = (registers[r] + l.c as u64) & 16_383;
+            registers[r] = (registers[r] + l.c as u64).min(16_383);
             next
         }
         4 => {
@@ -156,6 +160,10 @@ pub fn step(rule: &[u32], script: &[u32], inputs: &[u16], history: &mut [u16], s
         10 if *kept & node != 0 => target,
         11 if *work & node != 0 => target,
         13 if registers[r] == registers[c & 15] => target,
+        14 => {
+            registers[r] = registers[r].saturating_sub(l.c as u64);
+            next
+        }
         12 => {
             *kept = *kept & !node | *work & node;
             next

@@ -16,13 +16,13 @@ pub const C: usize = 7;
 // What each opcode leaves unused; what follows it: 1 the next line, 2 its target.
 const UNUSED: [u32; 16] = {
     let (r, c, t) = (0xf << 24, 0x3fff << 10, 0x3ff);
-    [r | c | t, t, t, t, c | t, 0, 0, r | c, r | c | t, 0xe << 24 | t, r, r, r | t, 0, !0, !0]
+    [r | c | t, t, t, t, c | t, 0, 0, r | c, r | c | t, 0xe << 24 | t, r, r, r | t, 0, t, !0]
 };
-const FOLLOWS: [u8; 16] = [0, 1, 1, 1, 1, 3, 3, 2, 1, 1, 3, 3, 1, 3, 0, 0];
+const FOLLOWS: [u8; 16] = [0, 1, 1, 1, 1, 3, 3, 2, 1, 1, 3, 3, 1, 3, 1, 0];
 
 /// The opcodes of bare and of annotated scripts, opcode i at bit i.
-pub const BARE: u32 = 0x21ff;
-pub const ANNOTATED: u32 = 0x3fff;
+pub const BARE: u32 = 0x61ff;
+pub const ANNOTATED: u32 = 0x7fff;
 
 pub fn goes_to_target(word: u32) -> bool {
     FOLLOWS[(word >> 28) as usize] & 2 != 0
@@ -182,7 +182,7 @@ impl<'a> Closing<'a> {
         let (mut p, mut q) = (*s, *s);
         match word >> 28 {
             0 => true,
-            1..=4 => {
+            1..=4 | 14 => {
                 p[T] = 0;
                 p[F] = 0;
                 p[W] = 0;
