@@ -1,6 +1,6 @@
 //! Random requests: what passes every question, what is spoiled bit by bit, several faults at once, lengths one short and one
 //! long.
-use reference::facts::{all_facts, first_facts, pass, Facts};
+use reference::facts::{all_facts, close, first_facts, pass, Facts, T};
 use reference::generate;
 use reference::judge::{first_priors, next_priors, values_now};
 use reference::random::Rng;
@@ -103,8 +103,7 @@ fn bare(g: &mut Rng, rule: &Rule, spoiled: usize) -> Vec<u32> {
     words
 }
 
-/// Instructions of an annotated script at random, with the most facts that can be noted there, found by crossing out what some
-/// line does not pass on.
+/// Instructions of an annotated script at random, with the most facts that can be noted there.
 fn noted_most(g: &mut Rng, rule: &Rule) -> Vec<Line> {
     let n = g.within(1, 14);
     let past = rule.past_nodes();
@@ -144,14 +143,27 @@ fn noted_most(g: &mut Rng, rule: &Rule) -> Vec<Line> {
             _ => Line::new(op, 0, node, 0),
         });
     }
+    note_most(rule, &mut lines);
+    // often, presents that the facts do not allow are made gos, so that the script is accepted
+    if g.chance(1, 2) {
+        while let Some(i) = lines.iter().position(|l| l.op == 8 && !close(rule, &l.facts).has(T, rule.last())) {
+            lines[i] = Line::new(7, 0, 0, i as u16 + 1);
+            note_most(rule, &mut lines);
+        }
+    }
+    lines
+}
+
+/// Notes the most facts that questions 8, 9 and 11 let pass, found by crossing out what some line does not pass on.
+fn note_most(rule: &Rule, lines: &mut [Line]) {
     let meet = |a: Facts, b: Facts| Facts { set: std::array::from_fn(|k| a.set[k] & b.set[k]) };
-    for l in &mut lines {
+    for l in lines.iter_mut() {
         l.facts = all_facts(rule);
     }
     lines[0].facts = first_facts(rule);
     loop {
         let before: Vec<Facts> = lines.iter().map(|l| l.facts).collect();
-        for i in 0..n {
+        for i in 0..lines.len() {
             let p = pass(rule, &lines[i]);
             if let Some(f) = p.target {
                 let t = lines[i].target as usize;
@@ -162,7 +174,7 @@ fn noted_most(g: &mut Rng, rule: &Rule) -> Vec<Line> {
             }
         }
         if lines.iter().map(|l| l.facts).eq(before) {
-            return lines;
+            return;
         }
     }
 }
@@ -213,9 +225,13 @@ fn annotated(g: &mut Rng, rule: &Rule, spoiled: usize) -> Vec<u32> {
             }
             // facts of one kind kept where a line leads, which its instruction may have to drop
             13 | 14 => {
+                // each kind as often as another, though T and F are dropped at more lines
                 let kept = kept_facts(&lines, &words);
-                if !kept.is_empty() {
-                    let (at, facts) = g.pick(&kept);
+                let kinds: Vec<usize> = (1..8).filter(|kind| kept.iter().any(|(at, _)| at % 8 == *kind)).collect();
+                if !kinds.is_empty() {
+                    let kind = g.pick(&kinds);
+                    let of_kind: Vec<(usize, u32)> = kept.into_iter().filter(|(at, _)| at % 8 == kind).collect();
+                    let (at, facts) = g.pick(&of_kind);
                     words[at] |= facts;
                 }
             }

@@ -130,7 +130,7 @@ fn ends_met(rule: &[u32], script: &[u32], inputs: &[u16], mut history: Vec<u16>,
 #[test]
 fn registers_meet_their_ends() {
     let mut met: BTreeMap<&str, u32> = BTreeMap::new();
-    for n in 0..60_000 {
+    for n in 0..100_000 {
         let names = match request(SEED, n) {
             Request::Bare { rule, script, .. } => match check_bare(&rule, &script) {
                 Ok(_) if script.iter().any(|w| w >> 28 == 14) => vec!["a bare script with a 14"],
