@@ -24,11 +24,11 @@
  *
  * FORMATS. A rule is 1 to 32 nodes, one 32-bit word each, from the most significant bit: kind 3 bits, register 4, constant 14,
  * left 5, right 5, a zero bit; an operand is a node's number, from 0. A bare script is 1 to 1,024 lines of one 32-bit word:
- * opcode 4 bits, r 4, c 14, target 10; opcodes 0 to 8 and 13. An annotated script has eight words a line: the instruction, opcodes
- * 0 to 13, and seven sets of facts in the order T, F, A, B, M, W, C, node 0 at the most significant bit. A node of kind 6 is true if
- * its register equals the one whose number, 0 to 15, is in its constant; an instruction of opcode 13 goes to its target if register
- * r equals the one whose number is in c. A history has 16 numbers for each presentation, the registers at that time, each at most
- * 16,383.
+ * opcode 4 bits, r 4, c 14, target 10; opcodes 0 to 8, 13 and 14. An annotated script has eight words a line: the instruction,
+ * opcodes 0 to 14, and seven sets of facts in the order T, F, A, B, M, W, C, node 0 at the most significant bit. A node of kind 6 is
+ * true if its register equals the one whose number, 0 to 15, is in its constant. Opcode 3 raises register r by c and stops at 16,383;
+ * 13 goes to its target if register r equals the one whose number is in c; 14 lowers register r by c and stops at 0. A history has
+ * 16 numbers for each presentation, the registers at that time, each at most 16,383.
  *
  * STACK. A proof knows nothing of the stack, so what a call takes was measured: on a painted stack, with rules as deeply nested as
  * question 4 allows, full scripts and random requests (reference/compare/tests/stack.rs, which also holds enum guard_stack to it).
@@ -173,7 +173,8 @@ uint32_t guard_fresh(const uint32_t *rule, size_t rule_length, uint64_t *state, 
  * the rule holds for an accepted script, a state that guard_fresh wrote and that only guard_step has changed since, inputs of at
  * most 16,383, and rule, script, inputs, state and history that nothing else writes. `state` and `history` stay as they are at a
  * halt, at an input when none is left, at a present with fewer than 16 free numbers, at a line that is not there, and at an
- * instruction that question 6 would refuse. */
+ * instruction that question 6 would refuse. A register of more than 16,383, which no run has, becomes 16,383 where opcode 3 raises it,
+ * and has c less where opcode 14 lowers it. */
 uint32_t guard_step(const uint32_t *rule, size_t rule_length, const uint32_t *script, size_t script_length,
                     const uint16_t *inputs, size_t inputs_length, uint16_t *history, size_t history_length,
                     uint64_t *state, size_t state_length);

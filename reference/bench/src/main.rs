@@ -146,13 +146,24 @@ fn run_rows() -> Vec<Row> {
     const BUDGET: u64 = 1_000_000;
     let i = instruction;
     // counts, with tests and copies, and presents nothing
-    let count = vec![i(3, 1, 1, 0), i(5, 1, 0, 4), i(6, 2, 7, 0), i(7, 0, 0, 0), i(3, 2, 1, 0), i(2, 3, 2, 0), i(7, 0, 0, 0)];
+    let count = vec![
+        i(3, 1, 1, 0),
+        i(5, 1, 16_383, 4),
+        i(6, 2, 7, 0),
+        i(7, 0, 0, 0),
+        i(1, 1, 0, 0),
+        i(3, 2, 1, 0),
+        i(2, 3, 2, 0),
+        i(7, 0, 0, 0),
+    ];
+    // a level up by 5 to the one end and down by 10 to the other, over and over
+    let sweep = vec![i(3, 1, 5, 0), i(5, 1, 16_383, 3), i(7, 0, 0, 0), i(14, 1, 10, 0), i(5, 1, 0, 0), i(7, 0, 0, 3)];
     // presents all the time: register 1 = 1 since register 2 = 1
     let present = vec![i(1, 1, 1, 0), i(1, 2, 1, 0), i(8, 0, 0, 0), i(1, 2, 0, 0), i(8, 0, 0, 0), i(7, 0, 0, 1)];
     let mut g = Rng(9);
     let inputs: Vec<u16> = (0..200_000).map(|_| g.below(2) as u16).collect();
     let mut rows = vec![];
-    for (name, bare) in [("counts", count), ("presents", present), ("reads and presents", tone())] {
+    for (name, bare) in [("counts", count), ("raises and lowers", sweep), ("presents", present), ("reads and presents", tone())] {
         let script = woven(R1, &bare);
         let mut n = [0; 22];
         let mut history = vec![0; 16 * 200_000];
