@@ -1,6 +1,6 @@
 -- What is written into registers (`specs/Machine.antt`): 3 and 14 stop at their ends, and no run has a register above 16,383.
---     raised-sum, raised-end, raised-most, raised-up     r + c where that is at most 16,383, else 16,383; never less than r was
---     lowered-difference, lowered-end, lowered-down      r − c, or 0 where c is larger; never more than r was
+--     raised-sum, raised-end, raised-between             r + c, or 16,383 where that is more; never less than r was
+--     lowered-difference, lowered-end, lowered-down      r − c, or 0 where c is more; never more than r was
 --     Within, written-within                             numbers of at most 16,383, and a write that keeps to them
 --     after-within, running-within                       so do the registers after any number of steps, and after a run
 -- Assumes nothing.
@@ -9,7 +9,7 @@ use mathlib.Core.Logic.{inl, inr}
 use mathlib.Core.Bool.{Bool, true, false, cond}
 use mathlib.Core.Option.{Option, none, some}
 use mathlib.Core.List.{List, [], _∷_}
-use Prim.Native.Nat.{ℕ, zero, suc, _+_, _≤_, _<_}
+use Prim.Native.Nat.{ℕ, zero, suc, _+_, _/_, _≤_, _<_}
 use native.Mathlib.Omega.{arith}
 use lib.Dec.{leb}
 use lib.ListN.{length, getD, set, drop, replicate, List·getD-eq-default}
@@ -37,18 +37,11 @@ pub raised-end : (a c : ℕ) → largestValue < a + c → raised a c ≡ largest
 unfolding raised
 raised-end a c h = rw (lt-leb (a + c) largestValue h)
 
-pub raised-most : (a c : ℕ) → raised a c ≤ largestValue
-raised-most a c =
+pub raised-between : (a c : ℕ) → (raised a c ≤ largestValue) × (a ≤ largestValue → a ≤ raised a c)
+raised-between a c =
     elim (le-or-lt (a + c) largestValue) [
-      | inl h ↦ omega (arith, raised-sum a c h)
-      | inr h ↦ omega (arith, raised-end a c h)
-    ]
-
-pub raised-up : (a c : ℕ) → a ≤ largestValue → a ≤ raised a c
-raised-up a c small =
-    elim (le-or-lt (a + c) largestValue) [
-      | inl h ↦ omega (arith, raised-sum a c h)
-      | inr h ↦ omega (arith, raised-end a c h)
+      | inl h ↦ let e = raised-sum a c h in (omega arith, λ small. omega arith)
+      | inr h ↦ let e = raised-end a c h in (omega arith, λ small. omega arith)
     ]
 
 pub lowered-difference : (a c : ℕ) → c ≤ a → lowered a c + c ≡ a
@@ -89,7 +82,7 @@ pub written-within : (inputs : List ℕ) (n : ℕ) (s : List ℕ) (r : ℕ) (v :
 unfolding written
 written-within inputs n s r (constant c) small i h = small
 written-within inputs n s r (copyOf c) small i h = h c
-written-within inputs n s r (plus c) small i h = raised-most (registerOf s r) c
+written-within inputs n s r (plus c) small i h = raised-between (registerOf s r) c .0
 written-within inputs n s r nextInput small i h = i n
 written-within inputs n s r (minus c) small i h =
     let a : registerOf s r ≤ largestValue = h r in
@@ -133,14 +126,6 @@ move-within inputs present m small given h = h
 move-within inputs (setWork k b) m small given h = h
 move-within inputs (keep k) m small given h = h
 
-unless-within : (o : Option Stop) (m k : Machine) → Within (m .registers) → Within (k .registers) → Within (unlessStopped o m k .registers)
-unless-within none m k h g = g
-unless-within (some s) m k h g = h
-
-cond-within : (b : Bool) (m k : Machine) → Within (m .registers) → Within (k .registers) → Within (cond b m k .registers)
-cond-within true m k h g = h
-cond-within false m k h g = g
-
 zeros-within : (n : ℕ) → Within (replicate n 0)
 zeros-within zero i = omega arith
 zeros-within (suc n) zero = omega arith
@@ -157,11 +142,18 @@ module _ (form : Form) (rule script inputs lent : List ℕ) (asked : question15 
 
   step-within : (m : Machine) → Within (m .registers) → Within (stepOf form rule script inputs m .registers)
   unfolding stepOf step linesOf
-  step-within m h =
-      let i = instructionAt (codeOf (linesOf form script)) (m .line) in
-      cond-within (canRun form rule script (m .line)) _ m
-      (unless-within (stops inputs i m) m (move inputs i m) h
-      (move-within inputs i m (lines-small form _ script (m .line)) inputs-within h)) h
+  step-within m h = go (canRun form rule script (m .line)) (stops inputs i m)
+    where
+      i : Instruction
+      i = instructionAt (codeOf (linesOf form script)) (m .line)
+
+      moved : Within (move inputs i m .registers)
+      moved = move-within inputs i m (lines-small form (length script / 8) script (m .line)) inputs-within h
+
+      go : (b : Bool) (o : Option Stop) → Within (cond b (unlessStopped o m (move inputs i m)) m .registers)
+      go true none = moved
+      go true (some s) = h
+      go false o = h
 
   -- for any script, accepted or not
   pub after-within : (n : ℕ) → Within (after form n rule script inputs lent .registers)
