@@ -1,10 +1,9 @@
--- `rule::monitor::since_step` meets its contract: the answers in the order of their cases are the equality's. Assumes nothing.
-use Prim.Native.Nat.{ℕ, _+_, _*_, _≤_, _<_}
+-- `rule::monitor::since_step` meets its contract: each arm is the equality at the truth values that its number shows. Assumes nothing.
+use Prim.Native.Nat.{ℕ, _+_, _*_, _/_, _%_, _≤_, _<_}
 use mathlib.Core.Path.{_≡_, refl, sym, ap, _∙_}
-use mathlib.Core.List.{[], _∷_}
 use mathlib.Core.Bool.{Bool, true, false}
 use native.Mathlib.Omega.{arith}
-use lib.ListN.{getD}
+use lib.Dec.{eqb}
 use mir.Val.{boolByte}
 use Rattle.rule.specs.Monitor.{sinceStep}
 use borrow.Author.Needs.{needs}
@@ -19,22 +18,22 @@ bit false = omega arith
 abbrev case : (left right prior : Bool) → ℕ
 case left right prior = 4 * boolByte left + 2 * boolByte right + boolByte prior
 
--- the eight answers, in the order of the arms
-abbrev answer : ℕ → Bool
-answer n = getD (false ∷ false ∷ true ∷ true ∷ false ∷ true ∷ true ∷ true ∷ []) n false
+-- the equality at the truth values that a number's bits show
+abbrev shown : ℕ → Bool
+shown n = sinceStep (eqb (n / 4) 1) (eqb (n / 2 % 2) 1) (eqb (n % 2) 1)
 
-eight-cases : (left right prior : Bool) → answer (case left right prior) ≡ sinceStep left right prior
-eight-cases false false false = refl
-eight-cases false false true = refl
-eight-cases false true false = refl
-eight-cases false true true = refl
-eight-cases true false false = refl
-eight-cases true false true = refl
-eight-cases true true false = refl
-eight-cases true true true = refl
+shown-is : (left right prior : Bool) → shown (case left right prior) ≡ sinceStep left right prior
+shown-is false false false = refl
+shown-is false false true = refl
+shown-is false true false = refl
+shown-is false true true = refl
+shown-is true false false = refl
+shown-is true false true = refl
+shown-is true true false = refl
+shown-is true true true = refl
 
-arm : (left right prior : Bool) (n : ℕ) → case left right prior ≡ n → answer n ≡ sinceStep left right prior
-arm left right prior n e = ap answer (sym e) ∙ eight-cases left right prior
+arm : (left right prior : Bool) (n : ℕ) → case left right prior ≡ n → shown n ≡ sinceStep left right prior
+arm left right prior n e = ap shown (sym e) ∙ shown-is left right prior
 
 cast-case : tie.Need-cast-case
 cast-case c = search needs
