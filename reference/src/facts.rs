@@ -59,6 +59,10 @@ pub enum Fault {
     RaisedRound,
     /// 14 goes round at the lower end.
     LoweredRound,
+    /// Left alone makes a since true from the first state on, as if the previous in its unfolding were the weak one.
+    SinceByLeft,
+    /// A since wants left at the state where right starts it.
+    SinceWantsLeft,
 }
 
 thread_local! {

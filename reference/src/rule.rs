@@ -1,4 +1,5 @@
 //! Rules: the table of nodes, questions 1 to 4, truth by the table of kinds.
+use crate::facts::{planted, Fault};
 use crate::{no, No, State};
 
 pub const MOST_NODES: usize = 32;
@@ -121,6 +122,13 @@ pub fn check_rule(words: &[u32]) -> Result<Rule, No> {
     Ok(rule)
 }
 
+/// Right is true at some i ≤ n and left at every j with i < j ≤ n.
+fn since(left: &[bool], right: &[bool], n: usize) -> bool {
+    let all_left = |from: usize| left[from..=n].iter().all(|&x| x);
+    let after = if planted(Fault::SinceWantsLeft) { 0 } else { 1 };
+    (0..=n).any(|i| right[i] && all_left(i + after)) || planted(Fault::SinceByLeft) && all_left(0)
+}
+
 impl Rule {
     pub fn len(&self) -> usize {
         self.nodes.len()
@@ -176,7 +184,7 @@ impl Rule {
                     0 => false,
                     1 | 2 | 6 => d.test(&history[n]),
                     3 => !table[left][n] || table[right][n],
-                    4 => (0..=n).any(|i| table[right][i] && (i + 1..=n).all(|j| table[left][j])),
+                    4 => since(&table[left], &table[right], n),
                     5 => n == 0 || table[left][n - 1],
                     _ => unreachable!(),
                 })

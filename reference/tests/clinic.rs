@@ -212,3 +212,20 @@ fn spoiled_scripts() {
     assert_eq!(spoiled(8 * 4 + 2, 0), Some((11, 4)), "line 4 without F");
     assert_eq!(spoiled(8 * 14, 7 << 28 | 15), Some((11, 14)), "line 14 made go to 15");
 }
+
+/// 2026-03: document 000's unfolding equality, its previous the strong one, at all truth values of left, right and prior. The prior is
+/// false at a first state and true after one at which right is true.
+#[test]
+fn the_eight_cases() {
+    for (left, right, prior) in (0..8).map(|n| (n & 4 != 0, n & 2 != 0, n & 1 != 0)) {
+        let before = if prior { vec![(0, 1)] } else { vec![] };
+        let now = (left as u16, right as u16);
+        let history = two(&[&before[..], &[now]].concat());
+        let clean = right || (prior && left);
+        // by the table of kinds, and with priors kept
+        for direct in [usize::MAX, 0] {
+            let v = judge(&SINCE, &history, direct).unwrap();
+            assert_eq!((v.index, v.part.is_empty()), (before.len() + clean as usize, clean), "{left} {right} {prior}");
+        }
+    }
+}

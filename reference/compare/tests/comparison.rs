@@ -4,6 +4,7 @@ use compare::compare::{compare, put, Met};
 use compare::requests::{request, Request};
 use compare::{faced, proved};
 use reference::facts::{with_planted_fault, Fault};
+use reference::judge::{first_priors, judge, next_priors, states, values_now};
 use reference::rule::check_rule;
 use reference::script::{check_bare, check_script};
 use std::collections::BTreeMap;
@@ -43,7 +44,7 @@ fn proved_and_reference_agree() {
 /// the comparison.
 #[test]
 fn planted_faults_are_noticed() {
-    for fault in [Fault::WorkKept, Fault::AnyOrder, Fault::RaisedRound, Fault::LoweredRound] {
+    for fault in [Fault::WorkKept, Fault::AnyOrder, Fault::RaisedRound, Fault::LoweredRound, Fault::SinceByLeft, Fault::SinceWantsLeft] {
         let mut met = Met::default();
         let noticed = (0..REQUESTS).find(|&n| {
             let asked = request(SEED, n);
@@ -152,6 +153,28 @@ fn registers_meet_their_ends() {
     }
     println!("{met:?}");
     assert!(met.len() == 11 && met.values().all(|&n| n >= 50), "{met:?}");
+}
+
+/// The histories judged meet a since step in each of its eight cases, counted by left, right and prior as the bits of a number.
+#[test]
+fn since_steps_meet_their_cases() {
+    let mut met = [0; 8];
+    for n in 0..60_000 {
+        let Request::Judge { rule, history, .. } = request(SEED, n) else { continue };
+        let Ok(verdict) = judge(&rule, &history, 0) else { continue };
+        let rule = check_rule(&rule).expect("its history was judged");
+        let mut prior = first_priors(&rule);
+        for state in states(&history).iter().take(verdict.index + 1) {
+            let v = values_now(&rule, &prior, state);
+            for (i, d) in rule.nodes.iter().enumerate().filter(|(_, d)| d.kind == 4) {
+                let (left, right) = (v[d.left as usize], v[d.right as usize]);
+                met[left as usize * 4 + right as usize * 2 + prior[i] as usize] += 1;
+            }
+            prior = next_priors(&rule, &v);
+        }
+    }
+    println!("{met:?}");
+    assert!(met.iter().all(|&n| n >= 1_000), "{met:?}");
 }
 
 /// Every length of lent numbers, from none to two more than are needed, for answers of each kind.
