@@ -1,0 +1,9 @@
+pub mod Typed
+pub mod Grammar
+pub mod Place
+pub mod Bytes
+pub mod Scan
+pub mod Reading
+pub mod Nodes
+pub mod Texting
+pub mod TextPromise
