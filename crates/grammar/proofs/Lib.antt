@@ -9,3 +9,9 @@ pub mod FirstLaws
 pub mod ScanLaws
 pub mod StuckLaws
 pub mod RangeLaws
+pub mod NodeLaws
+pub mod MentionLaws
+pub mod TableLaws
+pub mod TextLaws
+pub mod TextCompute
+pub mod TextCases

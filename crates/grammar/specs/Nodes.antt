@@ -17,14 +17,16 @@ size (weakPrevious φ) = size φ + 1
 abbrev pub lastFrom : (k n : ℕ) → ℕ
 lastFrom k n = k + n - 1
 
+-- a node over m nodes from number k on and n nodes after them: its operands are the last of each
+abbrev pub over : (ℕ → ℕ → Node) → (k m n : ℕ) → Node
+over node k m n = node (lastFrom k m) (lastFrom (k + m) n)
+
 -- the nodes of a formula, from number k on; its own node is the last
 unfoldable pub nodesFrom : ℕ → Formula → Table
 nodesFrom k never = falseNode ∷ []
 nodesFrom k (test a) = testNode a ∷ []
-nodesFrom k (implies φ ψ) =
-    nodesFrom k φ ++ (nodesFrom (k + size φ) ψ ++ impliesNode (lastFrom k (size φ)) (lastFrom (k + size φ) (size ψ)) ∷ [])
-nodesFrom k (since φ ψ) =
-    nodesFrom k φ ++ (nodesFrom (k + size φ) ψ ++ sinceNode (lastFrom k (size φ)) (lastFrom (k + size φ) (size ψ)) ∷ [])
+nodesFrom k (implies φ ψ) = nodesFrom k φ ++ (nodesFrom (k + size φ) ψ ++ over impliesNode k (size φ) (size ψ) ∷ [])
+nodesFrom k (since φ ψ) = nodesFrom k φ ++ (nodesFrom (k + size φ) ψ ++ over sinceNode k (size φ) (size ψ) ∷ [])
 nodesFrom k (weakPrevious φ) = nodesFrom k φ ++ weakPreviousNode (lastFrom k (size φ)) ∷ []
 
 -- the word of a node, and the words of a formula's table, in a stored form

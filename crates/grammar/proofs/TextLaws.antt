@@ -1,0 +1,136 @@
+-- Rules typed as text: the whole of `specs/TextPromise.antt`.
+--     text-promise      for any stored form
+--     text-promise32    for document 01's
+-- Assumes nothing.
+use mathlib.Core.Path.{_≡_, refl, sym, subst, ap, _∙_}
+use mathlib.Core.Bool.{true, false}
+use mathlib.Core.List.{List}
+use Prim.Native.Nat.{ℕ, _≤_, _<_}
+use native.Mathlib.Omega.{arith}
+use lib.ListN.{length}
+use lib.Dec.{leb}
+use borrow.Author.Tests.{leb-true, le-leb, lt-leb}
+use Rattle.spec.specs.Logic.{Trace, Formula}
+use Rattle.spec.specs.Questions.{Answer, passed, refused, _then_, askOnce}
+use Rattle.spec.specs.Rule.{Form, form32, tableOf, ruleOf}
+use Rattle.spec.specs.Judging.{Verdict, breach, clean, verdictOn, Means as VerdictMeans}
+use Rattle.spec.proofs.QuestionLaws.{then-passed, then-refused, both-passed, once-in, once-no, once-out}
+use Rattle.spec.proofs.JudgingLaws.{verdict-means}
+use Rattle.spec.proofs.StoredLaws.{GoodForm, good32}
+use Rattle.grammar.specs.Typed.{Prefix, not, wprev, prev, once, sofar, Operator, sinceWord, andWord, orWord, impliesWord, Comparison, equalTo, lessThan, testOf, TextFormula, constant, atom, prefixed, joined, opened, openedPrefix, openedOperator}
+use Rattle.grammar.specs.Grammar.{IsText}
+use Rattle.grammar.specs.Scan.{question16}
+use Rattle.grammar.specs.Reading.{formulaOf}
+use Rattle.grammar.specs.Nodes.{size, ruleWords}
+use Rattle.grammar.specs.Texting.{question17, writing, texting}
+use Rattle.grammar.specs.TextPromise.{Judged, InRange, TableFor, TextPromise}
+use Rattle.grammar.proofs.TypedLaws.{opened-agrees}
+use Rattle.grammar.proofs.ScanLaws.{text-passes, passes-text, text-formula, text-one}
+use Rattle.grammar.proofs.StuckLaws.{stuck-at, stuck-one}
+use Rattle.grammar.proofs.RangeLaws.{ranges-agree, range-at}
+use Rattle.grammar.proofs.TableLaws.{SmallTest, SmallTests, length-words, rule-words, words-accepted}
+
+-- ---- the opened formula of a text in range
+
+test-small : (k : Comparison) (r c : ℕ) → (r ≤ 15) × (c ≤ 16383) → SmallTest (testOf k r c)
+test-small equalTo r c (a, b) = (omega arith, omega arith)
+test-small lessThan r c (a, b) = (omega arith, omega arith)
+
+prefix-small : (p : Prefix) (φ : Formula) → SmallTests φ → SmallTests (openedPrefix p φ)
+prefix-small not φ s = (s, tt)
+prefix-small wprev φ s = s
+prefix-small prev φ s = ((s, tt), tt)
+prefix-small once φ s = ((tt, tt), s)
+prefix-small sofar φ s = (((tt, tt), (s, tt)), tt)
+
+operator-small : (o : Operator) (φ ψ : Formula) → SmallTests φ → SmallTests ψ → SmallTests (openedOperator o φ ψ)
+operator-small sinceWord φ ψ s t = (s, t)
+operator-small andWord φ ψ s t = ((s, (t, tt)), tt)
+operator-small orWord φ ψ s t = ((s, tt), t)
+operator-small impliesWord φ ψ s t = (s, t)
+
+opened-small : (φ : TextFormula) → InRange φ → SmallTests (opened φ)
+unfolding opened
+opened-small (constant true) r = (tt, tt)
+opened-small (constant false) r = tt
+opened-small (atom k i c) r = test-small k i c r
+opened-small (prefixed p φ) r = prefix-small p (opened φ) (opened-small φ r)
+opened-small (joined o φ ψ) r = operator-small o (opened φ) (opened ψ) (opened-small φ (r .0)) (opened-small ψ (r .1))
+
+-- ---- verdicts
+
+judged : (σ : Trace) (φ : TextFormula) (v : Verdict) → VerdictMeans σ (opened φ) v → Judged σ φ v
+judged σ φ (breach i) m = (m .0, λ a. m .1 (opened-agrees σ φ i .0 a), λ j l. opened-agrees σ φ j .1 (m .2 j l))
+judged σ φ (clean n) m = (m .0, λ j l. opened-agrees σ φ j .1 (m .1 j l))
+
+-- ---- the table
+
+module _ (form : Form) (good : GoodForm form) where
+  table-for : (φ : TextFormula) → InRange φ → size (opened φ) ≤ form .width → TableFor form φ (ruleWords form (opened φ))
+  table-for φ r few =
+      let small = opened-small φ r in
+      let t = tableOf form (ruleWords form (opened φ)) in
+      let e = rule-words form good (opened φ) small few in
+      record {
+        nodes = length-words form good (opened φ);
+        accepted = words-accepted form good (opened φ) small few;
+        rule = e;
+        verdict = λ σ. judged σ φ (verdictOn t σ) (subst (λ ψ. VerdictMeans σ ψ (verdictOn t σ)) e (verdict-means t σ));
+      }
+
+  -- after 16 and 17
+  text-writing : (bs : List ℕ) (φ : TextFormula) → IsText bs φ → InRange φ → (lent : ℕ) → texting form lent bs ≡ writing form lent (opened φ)
+  unfolding texting
+  text-writing bs φ x r lent =
+      then-passed _ _ (text-passes bs φ x) ∙ then-passed _ _ (ranges-agree bs φ x .1 r) ∙ ap (λ ψ. writing form lent (opened ψ)) (text-formula bs φ x)
+
+  writing-out : (lent : ℕ) (φ : Formula) (ws : List ℕ) → writing form lent φ ≡ passed ws
+      → (size φ ≤ form .width) × (size φ ≤ lent) × (ws ≡ ruleWords form φ)
+  unfolding writing
+  writing-out lent φ ws e =
+      let (a, e₁) = both-passed (askOnce 18 (leb (size φ) (form .width))) _ ws e in
+      let (b, e₂) = both-passed (askOnce 13 (leb (size φ) lent)) _ ws e₁ in
+      (leb-true _ _ (once-out 18 _ a), leb-true _ _ (once-out 13 _ b), cc)
+
+  pub writing-in : (lent : ℕ) (φ : Formula) → size φ ≤ form .width → size φ ≤ lent → writing form lent φ ≡ passed (ruleWords form φ)
+  unfolding writing
+  writing-in lent φ a b =
+      then-passed _ _ (once-in 18 _ (le-leb (size φ) (form .width) a)) ∙ then-passed _ _ (once-in 13 _ (le-leb (size φ) lent b))
+
+  pub writing-many : (lent : ℕ) (φ : Formula) → form .width < size φ → writing form lent φ ≡ refused 18 0
+  unfolding writing
+  writing-many lent φ a = then-refused _ _ 18 0 (once-no 18 _ (lt-leb (size φ) (form .width) a))
+
+  pub writing-few : (lent : ℕ) (φ : Formula) → size φ ≤ form .width → lent < size φ → writing form lent φ ≡ refused 13 0
+  unfolding writing
+  writing-few lent φ a b =
+      then-passed _ _ (once-in 18 _ (le-leb (size φ) (form .width) a)) ∙ then-refused _ _ 13 0 (once-no 13 _ (lt-leb (size φ) lent b))
+
+  table-out : (bs : List ℕ) (lent : ℕ) (ws : List ℕ) → texting form lent bs ≡ passed ws
+      → (φ : TextFormula) × IsText bs φ × TableFor form φ ws × (length ws ≤ lent)
+  unfolding texting
+  table-out bs lent ws e =
+      let (q₁₆, e₁) = both-passed (question16 bs) _ ws e in
+      let (q₁₇, e₂) = both-passed (question17 bs) _ ws e₁ in
+      let (φ, x) = passes-text bs q₁₆ in
+      let (few, room, same) = writing-out lent (opened φ) ws (sym (ap (λ ψ. writing form lent (opened ψ)) (text-formula bs φ x)) ∙ e₂) in
+      let t = table-for φ (ranges-agree bs φ x .0 q₁₇) few in
+      (φ, x, subst (TableFor form φ) (sym same) t, (let n = t .nodes in let s = ap length same in omega arith))
+
+  pub text-promise : TextPromise form
+  text-promise = record {
+    meaning = opened-agrees;
+    one = text-one;
+    texts = λ bs. (passes-text bs, λ x. text-passes bs (x .0) (x .1));
+    stuck = stuck-at;
+    stuck-once = stuck-one;
+    ranges = ranges-agree;
+    out-of-range = range-at;
+    too-many = λ bs φ x r many lent. text-writing bs φ x r lent ∙ writing-many lent (opened φ) many;
+    too-few = λ bs φ x r few lent short. text-writing bs φ x r lent ∙ writing-few lent (opened φ) few short;
+    written = λ bs φ x r few lent room. (ruleWords form (opened φ), text-writing bs φ x r lent ∙ writing-in lent (opened φ) few room);
+    table = table-out;
+  }
+
+pub text-promise32 : TextPromise form32
+text-promise32 = text-promise form32 good32
