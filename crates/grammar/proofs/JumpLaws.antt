@@ -2,7 +2,7 @@
 --     stuck-step, stuck-stop, stuck-end, tokens-step, tokens-end      one byte
 --     Jump, jump-one, jump-then, jump-count     from a state to another over bytes that write these tokens; it composes
 --     space-jump, sign-jump, word-jump          a space, a sign, a word; within-jump: the rest of a word
---     by-word, firstOf, secondOf, othersOf, letters-split     words and their letters
+--     by-word, firstOf, secondOf, othersOf, letters-split, letter-kind, begin-move     words and their letters
 -- Not here: numbers (`proofs/NumeralLaws.antt`), and where the scan stops (`proofs/StopLaws.antt`). Assumes nothing.
 use mathlib.Core.Path.{_≡_, refl, sym, subst, ap, _∙_}
 use mathlib.Core.Bool.{Bool, true, false, cond, _&&_}
@@ -119,7 +119,7 @@ pub letters-split : (w : Word) → lettersOf w ≡ firstOf w ∷ secondOf w ∷ 
 letters-split =
     by-word (λ w. lettersOf w ≡ firstOf w ∷ secondOf w ∷ othersOf w) refl refl refl refl refl refl refl refl refl refl refl
 
-letter-kind : (w : Word) → kindOf (firstOf w) ≡ letter
+pub letter-kind : (w : Word) → kindOf (firstOf w) ≡ letter
 unfolding kindOf
 letter-kind = by-word (λ w. kindOf (firstOf w) ≡ letter) refl refl refl refl refl refl refl refl refl refl refl
 

@@ -2,9 +2,10 @@
 --     KindIs, kind-is, digit-kind       what a byte's kind says of it
 --     digits-jump                       from within a number over all digits that stand there
 --     register-jump, number-jump        a register with its r, an atom's number
---     leads, leading-value, digits-count      digits, and then none
+--     leads, leads-some, leads-none, digits-within, leading-value, digits-count      digits, and then none
 -- Assumes nothing.
 use mathlib.Core.Path.{_≡_, refl, sym, subst, ap, ap₂, _∙_}
+use mathlib.Core.Logic.{_⊎_, inl, inr}
 use mathlib.Core.Bool.{Bool, true, false, cond, _&&_}
 use mathlib.Core.Option.{Option, none, some}
 use mathlib.Core.List.{List, [], _∷_, _++_}
@@ -14,7 +15,7 @@ use lib.ListN.{length, getD, drop}
 use lib.Dec.{T, leb, ltb, ltb→lt, eqb}
 use borrow.Author.Tests.{eqb-true, ne-eqb, leb-true}
 use Rattle.spec.specs.Questions.{all}
-use Rattle.spec.proofs.BoolLaws.{clash, and-both}
+use Rattle.spec.proofs.BoolLaws.{clash, and-both, decided}
 use Rattle.grammar.specs.Grammar.{Sign, openSign, closeSign, equalSign, belowSign, Token, register, number, sign, byteOf, space, letterR, isDigit, valueFrom}
 use Rattle.grammar.specs.Place.{Want, operand, comparison, constantNumber, operator, Place, at, afterRegister, afterNumber}
 use Rattle.grammar.specs.Bytes.{leadingFrom, digitsIn}
@@ -73,6 +74,24 @@ digits-on b bs e = rw (e, digitsIn)
 pub digits-off : (b : ℕ) (bs : List ℕ) → isDigit b ≡ false → digitsIn (b ∷ bs) ≡ 0
 unfolding digitsIn
 digits-off b bs e = rw (e, digitsIn)
+
+pub digits-within : (bs : List ℕ) → digitsIn bs ≤ length bs
+unfolding digitsIn
+digits-within [] = omega arith
+digits-within (b ∷ bs) = go (isDigit b) (digits-within bs)
+  where
+    go : (x : Bool) → digitsIn bs ≤ length bs → (elim x as (λ y. ℕ) [ true ↦ suc (digitsIn bs) | false ↦ 0 ]) ≤ suc (length bs)
+    go true h = omega arith
+    go false h = omega arith
+
+pub leads-some : (bs : List ℕ) → 0 < digitsIn bs → leads bs ≡ true
+unfolding digitsIn
+leads-some [] h = absurd (omega arith)
+leads-some (b ∷ bs) h = elim (decided (isDigit b)) [ inl e ↦ e | inr e ↦ let z = digits-off b bs e in absurd (omega arith) ]
+
+pub leads-none : (bs : List ℕ) → digitsIn bs ≡ 0 → leads bs ≡ false
+leads-none [] h = refl
+leads-none (b ∷ bs) h = elim (decided (isDigit b)) [ inl e ↦ let z = digits-on b bs e in absurd (omega arith) | inr e ↦ e ]
 
 -- ---- from within a number
 

@@ -1,8 +1,8 @@
 -- Where the scan (`specs/Scan.antt`) stops between tokens.
---     NoToken, no-move            no token begins with this byte here
+--     NoToken, no-move, touching-none      no token begins with this byte here
 --     word-stuck                  a word breaks off
 --     register-stuck              r has no number
---     agreeing-first, agreeing-most, agreeing-all      a word's letters that stand there
+--     agreeing-first, agreeing-most, agreeing-within, agreeing-all      a word's letters that stand there
 -- Assumes nothing.
 use mathlib.Core.Path.{_≡_, refl, sym, subst, ap, _∙_}
 use mathlib.Core.Logic.{_≢_}
@@ -62,6 +62,11 @@ pub no-move : (t : Bool) (p : Place) (b : ℕ) → NoToken t p b → move (betwe
 unfolding move
 no-move t p b h = kind-none t p b (kindOf b) (kind-is b) h
 
+-- a letter that touches a word
+pub touching-none : (p : Place) (b : ℕ) → kindOf b ≡ letter → move (between true p) b ≡ none
+unfolding move
+touching-none p b k = ap (onKind true p b) k
+
 -- ---- an r without a number
 
 no-first : (d b : ℕ) (k : Kind) → KindIs b k → isDigit b ≡ false → firstDigit d k ≡ none
@@ -96,6 +101,16 @@ agreeing-most (x ∷ xs) [] = omega arith
 agreeing-most (x ∷ xs) (b ∷ bs) = go (eqb b x) (agreeing-most xs bs)
   where
     go : (y : Bool) → agreeing xs bs ≤ length xs → cond y (suc (agreeing xs bs)) 0 ≤ length (x ∷ xs)
+    go true h = omega arith
+    go false h = omega arith
+
+pub agreeing-within : (xs bs : List ℕ) → agreeing xs bs ≤ length bs
+unfolding agreeing
+agreeing-within [] bs = omega arith
+agreeing-within (x ∷ xs) [] = omega arith
+agreeing-within (x ∷ xs) (b ∷ bs) = go (eqb b x) (agreeing-within xs bs)
+  where
+    go : (y : Bool) → agreeing xs bs ≤ length bs → cond y (suc (agreeing xs bs)) 0 ≤ length (b ∷ bs)
     go true h = omega arith
     go false h = omega arith
 

@@ -1,0 +1,6 @@
+-- What the proofs of the functions cite. No contract cites these files.
+pub mod DigitLaws
+pub mod LetterLaws
+pub mod WordLaws
+pub mod OverLaws
+pub mod TurnLaws

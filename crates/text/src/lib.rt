@@ -1,0 +1,3 @@
+// Rules typed as text.
+pub mod scan;
+pub mod token;
