@@ -21,7 +21,7 @@ use Rattle.grammar.specs.Typed.{TextFormula, constant, atom, prefixed, j
 use Rattle.grammar.specs.Grammar.{Word, constantWord, prefixWord, operatorWord, Sign, openSign, closeSign, equalSign, belowSign, Token, word, register, number, sign, Compares, Spells, aConstant, anAtom, inBrackets, aPrefixed, aJoined, tighter, lettersOf, byteOf, space, letterR, isDigit, valueFrom, Writes, nothing, aSpace, aWord, aRegister, aNumber, aSign, IsText}
 use Rattle.grammar.specs.Place.{Want, operand, comparison, constantNumber, operator, Place, at, afterWord, afterNumber, fits}
 use Rattle.grammar.specs.Bytes.{leadingFrom}
-use Rattle.grammar.specs.Texting.{question17}
+use Rattle.grammar.specs.Texting.{mostAfter, question17}
 use Rattle.grammar.specs.TextPromise.{InRange, TokenInRange, AllInRange, firstDigitOf, OutOfRangeAt}
 use Rattle.grammar.proofs.SpellLaws.{fits-out, spells-fits}
 use Rattle.grammar.proofs.JumpLaws.{none-some, by-word}
@@ -30,13 +30,10 @@ use Rattle.grammar.proofs.ScanLaws.{sign-no-digit, no-digit-next, after
 
 -- ---- byte by byte
 
-abbrev most : (before : ℕ) → ℕ
-most before = cond (eqb before letterR) 15 largestValue
-
 -- no number out of range starts at place i, after the byte `before`
 abbrev okAt : (before : ℕ) → List ℕ → ℕ → Bool
 okAt before bs i =
-    not (isDigit (getD bs i 0) && not (isDigit (getD (before ∷ bs) i 0))) || leb (leadingFrom 0 (drop i bs)) (most (getD (before ∷ bs) i 0))
+    not (isDigit (getD bs i 0) && not (isDigit (getD (before ∷ bs) i 0))) || leb (leadingFrom 0 (drop i bs)) (mostAfter (getD (before ∷ bs) i 0))
 
 abbrev next : Option ℕ → Option ℕ
 next none = none
@@ -80,13 +77,13 @@ failing-here a b bs e = rw (e, failing)
 -- ---- bytes at which no number starts
 
 -- a byte that is no digit, or a digit after a digit
-quiet : (x y z : Bool) → (x ≡ false) ⊎ (y ≡ true) → (not (x && not y) || z) ≡ true
+pub quiet : (x y z : Bool) → (x ≡ false) ⊎ (y ≡ true) → (not (x && not y) || z) ≡ true
 quiet true y z (inl e) = clash refl e
 quiet true true z (inr e) = refl
 quiet true false z (inr e) = clash e refl
 quiet false y z e = refl
 
-started : (x y z : Bool) → x ≡ true → y ≡ false → (not (x && not y) || z) ≡ z
+pub started : (x y z : Bool) → x ≡ true → y ≡ false → (not (x && not y) || z) ≡ z
 started true true z e f = clash refl f
 started true false z e f = refl
 started false y z e f = clash e refl
@@ -118,20 +115,20 @@ digits-failing (d ∷ ds) a bs h e =
 -- ---- a number
 
 number-ok : (a d : ℕ) (ds bs : List ℕ) → isDigit a ≡ false → all isDigit (d ∷ ds) ≡ true → leads bs ≡ false
-    → okAt a (d ∷ ds ++ bs) 0 ≡ leb (valueFrom 0 (d ∷ ds)) (most a)
+    → okAt a (d ∷ ds ++ bs) 0 ≡ leb (valueFrom 0 (d ∷ ds)) (mostAfter a)
 number-ok a d ds bs h k l =
-    started (isDigit d) (isDigit a) (leb (leadingFrom 0 (d ∷ ds ++ bs)) (most a)) (and-both (isDigit d) (all isDigit ds) k .0) h
-    ∙ ap (λ v. leb v (most a)) (leading-value (d ∷ ds) 0 bs k l)
+    started (isDigit d) (isDigit a) (leb (leadingFrom 0 (d ∷ ds ++ bs)) (mostAfter a)) (and-both (isDigit d) (all isDigit ds) k .0) h
+    ∙ ap (λ v. leb v (mostAfter a)) (leading-value (d ∷ ds) 0 bs k l)
 
-number-failing : (a d : ℕ) (ds bs : List ℕ) → isDigit a ≡ false → all isDigit (d ∷ ds) ≡ true → leads bs ≡ false → valueFrom 0 (d ∷ ds) ≤ most a
+number-failing : (a d : ℕ) (ds bs : List ℕ) → isDigit a ≡ false → all isDigit (d ∷ ds) ≡ true → leads bs ≡ false → valueFrom 0 (d ∷ ds) ≤ mostAfter a
     → failing a (d ∷ ds ++ bs) ≡ moved (length (d ∷ ds)) (failing (lastOf a (d ∷ ds)) bs)
 number-failing a d ds bs h k l v =
     let (p, q) = and-both (isDigit d) (all isDigit ds) k in
-    failing-on a d (ds ++ bs) (number-ok a d ds bs h k l ∙ le-leb (valueFrom 0 (d ∷ ds)) (most a) v) ∙ ap next (digits-failing ds d bs p q)
+    failing-on a d (ds ++ bs) (number-ok a d ds bs h k l ∙ le-leb (valueFrom 0 (d ∷ ds)) (mostAfter a) v) ∙ ap next (digits-failing ds d bs p q)
 
-number-fails : (a d : ℕ) (ds bs : List ℕ) → isDigit a ≡ false → all isDigit (d ∷ ds) ≡ true → leads bs ≡ false → most a < valueFrom 0 (d ∷ ds)
+number-fails : (a d : ℕ) (ds bs : List ℕ) → isDigit a ≡ false → all isDigit (d ∷ ds) ≡ true → leads bs ≡ false → mostAfter a < valueFrom 0 (d ∷ ds)
     → failing a (d ∷ ds ++ bs) ≡ some 0
-number-fails a d ds bs h k l v = failing-here a d (ds ++ bs) (number-ok a d ds bs h k l ∙ lt-leb (valueFrom 0 (d ∷ ds)) (most a) v)
+number-fails a d ds bs h k l v = failing-here a d (ds ++ bs) (number-ok a d ds bs h k l ∙ lt-leb (valueFrom 0 (d ∷ ds)) (mostAfter a) v)
 
 -- ---- tokens
 
@@ -233,7 +230,7 @@ after-word operator d (prefixWord p) q e = none-some e
 after-word operator d (operatorWord o) q e = let z : at operand d ≡ q = cc in subst (λ p. afterNumber (p .want) (p .depth) ≡ none) z refl
 
 -- where a number may stand
-number-before : (w : Want) (d a : ℕ) (q : Place) → afterNumber w d ≡ some q → Before w a → (isDigit a ≡ false) × (most a ≡ largestValue)
+number-before : (w : Want) (d a : ℕ) (q : Place) → afterNumber w d ≡ some q → Before w a → (isDigit a ≡ false) × (mostAfter a ≡ largestValue)
 number-before operand d a q e b = none-some e
 number-before comparison d a q e b = none-some e
 number-before constantNumber d a q e b = (b .0, ap (λ c. cond c 15 largestValue) (b .1))

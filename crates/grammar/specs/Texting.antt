@@ -25,12 +25,15 @@ abbrev pub numberAt : List ℕ → ℕ → Bool
 numberAt bs i = isDigit (getD bs i 0) && not (isDigit (byteBefore bs i))
 
 -- after r it is a register's, at most 15; else at most 16,383
-abbrev pub mostAt : List ℕ → ℕ → ℕ
-mostAt bs i = cond (eqb (byteBefore bs i) letterR) 15 largestValue
+abbrev pub mostAfter : ℕ → ℕ
+mostAfter before = cond (eqb before letterR) 15 largestValue
+
+abbrev pub inRangeAt : List ℕ → ℕ → Bool
+inRangeAt bs i = not (numberAt bs i) || leb (leadingFrom 0 (drop i bs)) (mostAfter (byteBefore bs i))
 
 -- 17: is each number in range? (the place of its first digit)
 unfoldable pub question17 : List ℕ → Checked
-question17 bs = ask 17 (length bs) (λ i. not (numberAt bs i) || leb (leadingFrom 0 (drop i bs)) (mostAt bs i))
+question17 bs = ask 17 (length bs) (inRangeAt bs)
 
 -- ---- 18 and 13, and the words
 

@@ -4,3 +4,4 @@ pub mod LetterLaws
 pub mod WordLaws
 pub mod OverLaws
 pub mod TurnLaws
+pub mod InRangeLaws

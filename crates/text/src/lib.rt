@@ -1,3 +1,4 @@
 // Rules typed as text.
+mod range;
 pub mod scan;
 pub mod token;
