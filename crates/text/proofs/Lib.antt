@@ -5,3 +5,6 @@ pub mod WordLaws
 pub mod OverLaws
 pub mod TurnLaws
 pub mod InRangeLaws
+pub mod BuildLaws
+pub mod StackLaws
+pub mod HoldLaws

@@ -1,2 +1,4 @@
 pub mod Tokens
 pub mod Places
+pub mod Building
+pub mod Stacks

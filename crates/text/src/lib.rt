@@ -1,4 +1,5 @@
 // Rules typed as text.
 mod range;
 pub mod scan;
+mod table;
 pub mod token;

@@ -4,6 +4,7 @@ use crate::token::Operator;
 use crate::token::Prefix;
 use crate::token::Token;
 use crate::token::digits_at;
+use crate::token::less_one;
 use crate::token::one_byte;
 use crate::token::read_word;
 use rule::answer::Answer;
@@ -141,12 +142,6 @@ pub(crate) fn read_token(text: &[u8], at: usize, s: Between) -> Lexed
         Want::Number => read_number(text, at, s.depth, s.touching),
         Want::Operator => read_operator(text, at, s.depth, s.touching),
     }
-}
-
-fn less_one(n: usize) -> usize
-    ensures { λ r. ⌜ r ≡ n - 1 ⌝ }
-{
-    if n == 0 { 0 } else { n - 1 }
 }
 
 fn wanting(want: Want, depth: usize, touching: bool) -> Between

@@ -1,7 +1,7 @@
 // The tokens of a text, and what they are read from: digits and letters.
 ghost use mathlib.Core.Path.{_≡_};
 ghost use mathlib.Core.Bool.{true, false};
-ghost use Prim.Native.Nat.{_+_, _≤_, _<_};
+ghost use Prim.Native.Nat.{_+_, _-_, _≤_, _<_};
 ghost use lib.ListN.{length, getD, drop};
 ghost use Rattle.grammar.specs.Grammar.{isDigit};
 ghost use Rattle.grammar.specs.Bytes.{leadingFrom, digitsIn, agreeing};
@@ -45,6 +45,13 @@ pub enum Lexed {
 pub struct Digits {
     pub value: u32,
     pub next: usize,
+}
+
+// One less; 0 has none.
+pub(crate) fn less_one(n: usize) -> usize
+    ensures { λ r. ⌜ r ≡ n - 1 ⌝ }
+{
+    if n == 0 { 0 } else { n - 1 }
 }
 
 pub(crate) fn is_digit(b: u8) -> bool

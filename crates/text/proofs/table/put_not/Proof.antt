@@ -1,0 +1,23 @@
+-- `text::table::put_not` meets its contract, by `HoldLaws`. Assumes nothing.
+use native.Mathlib.Omega.{arith}
+use borrow.Author.Needs.{needs}
+use Rattle.spec.specs.Rule.{falseNode}
+use Rattle.text.proofs.HoldLaws.{holds-not, count-put}
+use Rattle.text.proofs.table.put_not.Statement.{statement}
+use Rattle.text.proofs.table.put_not.Tie as tie
+
+put-false-requires : tie.Need-put-false-requires
+put-false-requires c κs = search needs
+
+less-one-requires : tie.Need-less-one-requires
+less-one-requires c κs = search needs
+
+put-implies-requires : tie.Need-put-implies-requires
+put-implies-requires c κs = let n = c .before .before .put-false .ensures in let k = count-put (c .before .before .before .before .args .table .now) _ (c .before .before .before .before .args .n) _ (omega (arith, c .before .before .before .before .pre .0)) (c .before .before .before .before .pre .1) falseNode n in (omega (arith, k, c .before .before .before .before .pre .0), n .long, omega (arith, c .less-one .ensures, c .before .before .before .before .pre .0))
+
+returns : tie.Need-returns
+returns c = holds-not (c .before .before .before .before .before .args .table .now) _ _ (c .before .before .before .before .before .args .n) _ _ (c .before .less-one .result) (omega (arith, c .before .before .before .before .before .pre .0)) (c .before .before .before .before .before .pre .1) (c .before .less-one .ensures) (c .before .before .before .put-false .ensures) (c .put-implies .ensures)
+
+pub put-not-spec : {M : Type 1} → statement M
+put-not-spec =
+    tie.close (tie.spec put-false-requires less-one-requires put-implies-requires returns)

@@ -1,0 +1,21 @@
+-- `text::table::put_since` meets its contract, by `HoldLaws`. Assumes nothing.
+use borrow.Author.Needs.{needs}
+use Rattle.text.proofs.HoldLaws.{holds-since}
+use Rattle.text.proofs.table.put_since.Statement.{statement}
+use Rattle.text.proofs.table.put_since.Tie as tie
+
+less-one-requires : tie.Need-less-one-requires
+less-one-requires c κs = search needs
+
+node-word-requires : tie.Need-node-word-requires
+node-word-requires c κs = search needs
+
+put-word-requires : tie.Need-put-word-requires
+put-word-requires c κs = search needs
+
+returns : tie.Need-returns
+returns c = holds-since (c .before .before .before .before .args .table .now) (c .put-word .last .0) (c .before .before .before .before .args .n) (c .put-word .result) _ (c .before .before .before .before .args .left) _ (c .before .before .before .before .pre .0) (c .before .before .before .before .pre .1) (c .before .before .less-one .ensures) (c .put-word .ensures) (c .before .node-word .ensures)
+
+pub put-since-spec : {M : Type 1} → statement M
+put-since-spec =
+    tie.close (tie.spec less-one-requires node-word-requires put-word-requires returns)

@@ -1,0 +1,24 @@
+-- `text::table::put_sofar` meets its contract, by `HoldLaws`. Assumes nothing.
+use native.Mathlib.Omega.{arith}
+use borrow.Author.Needs.{needs}
+use Rattle.spec.specs.Rule.{form32}
+use Rattle.text.specs.Building.{putSince, putNot}
+use Rattle.text.proofs.HoldLaws.{holds-after, count-since, count-not}
+use Rattle.text.proofs.table.put_sofar.Statement.{statement}
+use Rattle.text.proofs.table.put_sofar.Tie as tie
+
+put-not-requires : tie.Need-put-not-requires
+put-not-requires c κs = search needs
+
+put-since-requires : tie.Need-put-since-requires
+put-since-requires c κs = let h = c .before .put-not .ensures in let k = count-not (c .before .before .before .args .table .now) _ (c .before .before .before .args .n) _ (omega (arith, c .before .before .before .pre .0)) (c .before .before .before .pre .1) h in (omega (arith, k, c .before .before .before .pre .0), h .long, c .before .before .before .pre .2)
+
+put-not-requires-2 : tie.Need-put-not-requires-2
+put-not-requires-2 c κs = let h = c .before .before .before .put-not .ensures in let k = count-not (c .before .before .before .before .before .args .table .now) _ (c .before .before .before .before .before .args .n) _ (omega (arith, c .before .before .before .before .before .pre .0)) (c .before .before .before .before .before .pre .1) h in let g = c .before .put-since .ensures in let j = count-since (c .before .before .before .put-not .last .0) _ (c .before .before .before .put-not .result) _ (omega (arith, k, c .before .before .before .before .before .pre .0)) (h .long) (c .before .before .before .before .before .args .left) g in (omega (arith, j, k, c .before .before .before .before .before .pre .0), g .long)
+
+returns : tie.Need-returns
+returns c = holds-after (putNot form32) (holds-after (putSince form32 (c .before .before .before .before .before .before .args .left)) (c .before .before .before .before .put-not .ensures) (c .before .before .put-since .ensures)) (c .put-not2 .ensures)
+
+pub put-sofar-spec : {M : Type 1} → statement M
+put-sofar-spec =
+    tie.close (tie.spec put-not-requires put-since-requires put-not-requires-2 returns)

@@ -1,0 +1,21 @@
+-- `text::table::put_true` meets its contract, by `HoldLaws`. Assumes nothing.
+use native.Mathlib.Omega.{arith}
+use borrow.Author.Needs.{needs}
+use Rattle.spec.specs.Rule.{form32, falseNode}
+use Rattle.text.specs.Building.{putNot, putTrue}
+use Rattle.text.proofs.HoldLaws.{holds-after, count-put}
+use Rattle.text.proofs.table.put_true.Statement.{statement}
+use Rattle.text.proofs.table.put_true.Tie as tie
+
+put-false-requires : tie.Need-put-false-requires
+put-false-requires c κs = search needs
+
+put-not-requires : tie.Need-put-not-requires
+put-not-requires c κs = let h = c .before .put-false .ensures in let k = count-put (c .before .before .before .args .table .now) _ (c .before .before .before .args .n) _ (omega (arith, c .before .before .before .pre .0)) (c .before .before .before .pre .1) falseNode h in (omega (arith, k, c .before .before .before .pre .0), h .long)
+
+returns : tie.Need-returns
+unfolding putTrue
+returns c = holds-after (putNot form32) (c .before .before .put-false .ensures) (c .put-not .ensures)
+
+pub put-true-spec : {M : Type 1} → statement M
+put-true-spec = tie.close (tie.spec put-false-requires put-not-requires returns)

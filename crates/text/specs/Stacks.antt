@@ -1,0 +1,58 @@
+-- The words of a text that wait for an operand, as they lie in an array: three numbers each, the word's number, the node to its left and how
+-- many brackets were open. The words of the table lie in another.
+use mathlib.Core.Path.{_≡_}
+use mathlib.Core.Bool.{Bool, true, false}
+use mathlib.Core.List.{List, [], _∷_}
+use Prim.Native.Nat.{ℕ, zero, suc, _+_, _*_, _≤_, _<_}
+use lib.ListN.{length, getD, take}
+use Rattle.grammar.specs.Typed.{not, wprev, prev, once, sofar, sinceWord, andWord, orWord, impliesWord, Comparison, equalTo, lessThan}
+use Rattle.grammar.specs.Reading.{Waiting, awaiting, withLeft, levelOf, rank, Entry, Built, Reading}
+use Rattle.text.specs.Building.{finishCost}
+
+-- the numbers of words
+abbrev pub waitingOf : ℕ → Waiting
+waitingOf n =
+    getD
+    (awaiting not ∷ awaiting wprev ∷ awaiting prev ∷ awaiting once ∷ awaiting sofar ∷ withLeft sinceWord ∷ withLeft andWord ∷ withLeft orWord ∷ []) n
+    (withLeft impliesWord)
+
+abbrev pub entryOf : (word left depth : ℕ) → Entry ℕ
+entryOf w l d = record { waiting = waitingOf w; tight = rank d (levelOf (waitingOf w)); noted = l }
+
+abbrev pub entryAt : List ℕ → ℕ → Entry ℕ
+entryAt st k = entryOf (getD st (3 * k) 0) (getD st (3 * k + 1) 0) (getD st (3 * k + 2) 0)
+
+-- the first n, the last of them first
+unfoldable pub stackOf : List ℕ → ℕ → List (Entry ℕ)
+stackOf st zero = []
+stackOf st (suc k) = entryAt st k ∷ stackOf st k
+
+abbrev pub builtOf : (stack : List ℕ) (top : ℕ) (table : List ℕ) (count : ℕ) → Built (List ℕ) ℕ
+builtOf st top table count = record { stack = stackOf st top; value = take count table }
+
+-- how many nodes the words that wait will put
+unfoldable pub owed : List (Entry ℕ) → ℕ
+owed [] = 0
+owed (e ∷ s) = finishCost (e .waiting) + owed s
+
+-- the nodes to their left are nodes of a table of 32
+unfoldable pub LeftSmall : List (Entry ℕ) → Type 0
+LeftSmall [] = Unit {0}
+LeftSmall (e ∷ s) = (e .noted < 32) × LeftSmall s
+
+abbrev pub comparisonOf : (below : Bool) → Comparison
+comparisonOf true = lessThan
+comparisonOf false = equalTo
+
+-- the first n words of the table
+pub record Holds (table : List ℕ) (n : ℕ) (ws : List ℕ) : Type 0 where
+  pub words : take n table ≡ ws
+  pub count : n ≡ length ws
+  pub long : length table ≡ 32
+
+-- what is built fits: the array and the table have room for all that is put and owed
+pub record Fitting (stack : List ℕ) (top : ℕ) (table : List ℕ) (count : ℕ) : Type 0 where
+  pub stack-long : length stack ≡ 96
+  pub table-long : length table ≡ 32
+  pub room : count + owed (stackOf stack top) ≤ 32
+  pub left-small : LeftSmall (stackOf stack top)

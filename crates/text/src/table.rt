@@ -1,0 +1,158 @@
+// Nodes put one after the other into a table of 32. `n` are there; each function hands back how many are then.
+use crate::token::less_one;
+ghost use mathlib.Core.Path.{_≡_};
+ghost use mathlib.Core.List.{[], _∷_, _++_};
+ghost use Prim.Native.Nat.{_+_, _*_, _≤_, _<_};
+ghost use lib.ListN.{length, take};
+ghost use Rattle.spec.specs.Rule.{form32, falseNode, testNode};
+ghost use Rattle.grammar.specs.Typed.{prev, sofar, andWord, testOf};
+ghost use Rattle.grammar.specs.Grammar.{constantWord, word};
+ghost use Rattle.grammar.specs.Reading.{awaiting, withLeft};
+ghost use Rattle.text.specs.Building.{put, putImplies, putSince, putWeak, putNot, putTrue, putConstant, finishes, finishCost, tokenCost};
+ghost use Rattle.text.specs.Stacks.{waitingOf, comparisonOf, Holds};
+
+// The numbers of the words that wait for an operand.
+pub(crate) const NOT: usize = 0;
+pub(crate) const WPREV: usize = 1;
+pub(crate) const PREV: usize = 2;
+pub(crate) const ONCE: usize = 3;
+pub(crate) const SOFAR: usize = 4;
+pub(crate) const SINCE: usize = 5;
+pub(crate) const AND: usize = 6;
+pub(crate) const OR: usize = 7;
+pub(crate) const IMPLIES: usize = 8;
+
+// One more node, by its word.
+fn put_word(table: &mut [u32; 32], n: usize, word: u32) -> usize
+    requires { ⌜ (n < 32) × (length (now table) ≡ 32) ⌝ }
+    ensures { λ r. ⌜ Holds (now (table .exit)) r (take n (now (table .entry)) ++ word ∷ []) ⌝ }
+{
+    table[n] = word;
+    n + 1
+}
+
+// The word of a node that is no test.
+fn node_word(kind: u32, left: usize, right: usize) -> u32
+    requires { ⌜ (kind < 8) × (left < 32) × (right < 32) ⌝ }
+    ensures { λ r. ⌜ r ≡ kind * 536870912 + left * 64 + right * 2 ⌝ }
+{
+    kind * 536870912 + left as u32 * 64 + right as u32 * 2
+}
+
+fn put_false(table: &mut [u32; 32], n: usize) -> usize
+    requires { ⌜ (n < 32) × (length (now table) ≡ 32) ⌝ }
+    ensures { λ r. ⌜ Holds (now (table .exit)) r (put form32 falseNode (take n (now (table .entry)))) ⌝ }
+{
+    put_word(table, n, 0)
+}
+
+pub(crate) fn put_test(
+    table: &mut [u32; 32],
+    n: usize,
+    below: bool,
+    register: u32,
+    constant: u32,
+) -> usize
+    requires { ⌜ (n < 32) × (length (now table) ≡ 32) × (register ≤ 15) × (constant ≤ 16383) ⌝ }
+    ensures { λ r. ⌜ Holds (now (table .exit)) r (put form32 (testNode (testOf (comparisonOf below) register constant)) (take n (now (table .entry)))) ⌝ }
+{
+    let fields = register * 33554432 + constant * 2048;
+    if below {
+        put_word(table, n, 1073741824 + fields)
+    } else {
+        put_word(table, n, 536870912 + fields)
+    }
+}
+
+fn put_implies(table: &mut [u32; 32], n: usize, left: usize) -> usize
+    requires { ⌜ (n < 32) × (length (now table) ≡ 32) × (left < 32) ⌝ }
+    ensures { λ r. ⌜ Holds (now (table .exit)) r (putImplies form32 left (take n (now (table .entry)))) ⌝ }
+{
+    put_word(table, n, node_word(3, left, less_one(n)))
+}
+
+fn put_since(table: &mut [u32; 32], n: usize, left: usize) -> usize
+    requires { ⌜ (n < 32) × (length (now table) ≡ 32) × (left < 32) ⌝ }
+    ensures { λ r. ⌜ Holds (now (table .exit)) r (putSince form32 left (take n (now (table .entry)))) ⌝ }
+{
+    put_word(table, n, node_word(4, left, less_one(n)))
+}
+
+fn put_weak(table: &mut [u32; 32], n: usize) -> usize
+    requires { ⌜ (n < 32) × (length (now table) ≡ 32) ⌝ }
+    ensures { λ r. ⌜ Holds (now (table .exit)) r (putWeak form32 (take n (now (table .entry)))) ⌝ }
+{
+    put_word(table, n, node_word(5, less_one(n), 0))
+}
+
+// Not of the last node.
+pub(crate) fn put_not(table: &mut [u32; 32], n: usize) -> usize
+    requires { ⌜ (n + 2 ≤ 32) × (length (now table) ≡ 32) ⌝ }
+    ensures { λ r. ⌜ Holds (now (table .exit)) r (putNot form32 (take n (now (table .entry)))) ⌝ }
+{
+    let a = put_false(table, n);
+    put_implies(table, a, less_one(n))
+}
+
+pub(crate) fn put_true(table: &mut [u32; 32], n: usize) -> usize
+    requires { ⌜ (n + 3 ≤ 32) × (length (now table) ≡ 32) ⌝ }
+    ensures { λ r. ⌜ Holds (now (table .exit)) r (putTrue form32 (take n (now (table .entry)))) ⌝ }
+{
+    let a = put_false(table, n);
+    put_not(table, a)
+}
+
+pub(crate) fn put_constant(table: &mut [u32; 32], n: usize, value: bool) -> usize
+    requires { ⌜ (n + tokenCost (word (constantWord value)) ≤ 32) × (length (now table) ≡ 32) ⌝ }
+    ensures { λ r. ⌜ Holds (now (table .exit)) r (putConstant form32 value (take n (now (table .entry)))) ⌝ }
+{
+    if value {
+        put_true(table, n)
+    } else {
+        put_false(table, n)
+    }
+}
+
+fn put_prev(table: &mut [u32; 32], n: usize) -> usize
+    requires { ⌜ (n + 5 ≤ 32) × (length (now table) ≡ 32) ⌝ }
+    ensures { λ r. ⌜ Holds (now (table .exit)) r (finishes form32 (awaiting prev) 0 (take n (now (table .entry)))) ⌝ }
+{
+    let a = put_not(table, n);
+    let b = put_weak(table, a);
+    put_not(table, b)
+}
+
+fn put_sofar(table: &mut [u32; 32], n: usize, left: usize) -> usize
+    requires { ⌜ (n + 5 ≤ 32) × (length (now table) ≡ 32) × (left < 32) ⌝ }
+    ensures { λ r. ⌜ Holds (now (table .exit)) r (finishes form32 (awaiting sofar) left (take n (now (table .entry)))) ⌝ }
+{
+    let a = put_not(table, n);
+    let b = put_since(table, a, left);
+    put_not(table, b)
+}
+
+fn put_and(table: &mut [u32; 32], n: usize, left: usize) -> usize
+    requires { ⌜ (n + 5 ≤ 32) × (length (now table) ≡ 32) × (left < 32) ⌝ }
+    ensures { λ r. ⌜ Holds (now (table .exit)) r (finishes form32 (withLeft andWord) left (take n (now (table .entry)))) ⌝ }
+{
+    let a = put_not(table, n);
+    let b = put_implies(table, a, left);
+    put_not(table, b)
+}
+
+// What a word puts whose operand has ended; `left` is the node to its left.
+pub(crate) fn put_end(table: &mut [u32; 32], n: usize, word: usize, left: usize) -> usize
+    requires { ⌜ (n + finishCost (waitingOf word) ≤ 32) × (length (now table) ≡ 32) × (left < 32) ⌝ }
+    ensures { λ r. ⌜ Holds (now (table .exit)) r (finishes form32 (waitingOf word) left (take n (now (table .entry)))) ⌝ }
+{
+    match word {
+        NOT => put_not(table, n),
+        WPREV => put_weak(table, n),
+        PREV => put_prev(table, n),
+        ONCE => put_since(table, n, left),
+        SOFAR => put_sofar(table, n, left),
+        SINCE => put_since(table, n, left),
+        AND => put_and(table, n, left),
+        _ => put_implies(table, n, left),
+    }
+}
