@@ -8,3 +8,4 @@ pub mod InRangeLaws
 pub mod BuildLaws
 pub mod StackLaws
 pub mod HoldLaws
+pub mod UnwindLaws

@@ -1,5 +1,5 @@
 -- The words that wait for an operand (`specs/Stacks.antt`).
---     stack-length, stack-set, stack-pushed      as they lie in an array
+--     stack-length, stack-set, stack-pushed, pushed-length      as they lie in an array
 --     ends-alike                       or and implies
 --     weight, read-weight              nodes put and nodes owed: a token adds its cost
 --     entries-owed                     each owes one at least, so that the array is long enough
@@ -57,6 +57,10 @@ stack-pushed st n w l d h =
     let rest : stackOf (set st₂ (3 * n + 2) d) n ≡ stackOf st n = stack-set st₂ n (3 * n + 2) d (omega arith) ∙ stack-set st₁ n (3 * n + 1) l (omega arith)
     ∙ stack-set st n (3 * n) w (omega arith) in
     ap₂ _∷_ (ap₂ (λ x y. entryOf x y (getD (set st₂ (3 * n + 2) d) (3 * n + 2) 0)) a b ∙ ap (entryOf w l) c) rest
+
+pub pushed-length : (st : List ℕ) (n w l d : ℕ) → length (set (set (set st (3 * n) w) (3 * n + 1) l) (3 * n + 2) d) ≡ length st
+pushed-length st n w l d =
+    length-set (set (set st (3 * n) w) (3 * n + 1) l) (3 * n + 2) d ∙ length-set (set st (3 * n) w) (3 * n + 1) l ∙ length-set st (3 * n) w
 
 -- or and implies end alike
 pub ends-alike : (form : Form) (w l : ℕ) (ws : List ℕ) → 7 ≤ w → (finishCost (waitingOf w) ≡ 1) × (putImplies form l ws ≡ finishes form (waitingOf w) l ws)

@@ -5,9 +5,11 @@ use mathlib.Core.Bool.{Bool, true, false}
 use mathlib.Core.List.{List, [], _∷_}
 use Prim.Native.Nat.{ℕ, zero, suc, _+_, _*_, _≤_, _<_}
 use lib.ListN.{length, getD, take}
+use lib.Dec.{leb}
+use Rattle.spec.specs.Rule.{form32}
 use Rattle.grammar.specs.Typed.{not, wprev, prev, once, sofar, sinceWord, andWord, orWord, impliesWord, Comparison, equalTo, lessThan}
-use Rattle.grammar.specs.Reading.{Waiting, awaiting, withLeft, levelOf, rank, Entry, Built, Reading}
-use Rattle.text.specs.Building.{finishCost}
+use Rattle.grammar.specs.Reading.{Waiting, awaiting, withLeft, levelOf, rank, Entry, Built, Reading, unwound}
+use Rattle.text.specs.Building.{words, finishCost}
 
 -- the numbers of words
 abbrev pub waitingOf : ℕ → Waiting
@@ -56,3 +58,13 @@ pub record Fitting (stack : List ℕ) (top : ℕ) (table : List ℕ) (count : �
   pub table-long : length table ≡ 32
   pub room : count + owed (stackOf stack top) ≤ 32
   pub left-small : LeftSmall (stackOf stack top)
+
+-- whether the last word that waits ends
+abbrev pub endsTop : (limit : ℕ) → List (Entry ℕ) → Bool
+endsTop limit [] = false
+endsTop limit (e ∷ s) = leb limit (e .tight)
+
+-- what ends has ended
+pub record Unwinds (stack : List ℕ) (top : ℕ) (table : List ℕ) (count limit : ℕ) (t : ℕ) (after : List ℕ) (n : ℕ) : Type 0 where
+  pub built : builtOf stack t after n ≡ unwound (words form32) limit (stackOf stack top) (take count table)
+  pub fits : Fitting stack t after n
