@@ -207,6 +207,10 @@ operator-size andWord φ ψ = omega arith
 operator-size orWord φ ψ = omega arith
 operator-size impliesWord φ ψ = omega arith
 
+pub cost-one : (t : Token) (n : ℕ) → n ≡ tokenCost t → n ≡ cost (t ∷ [])
+unfolding cost
+cost-one t n e = omega arith
+
 pub cost-append : (ts us : List Token) → cost (ts ++ us) ≡ cost ts + cost us
 unfolding cost
 cost-append [] us = omega arith

@@ -1,5 +1,5 @@
 -- The words at the start of a table (`specs/Stacks.antt`).
---     holds-set                  one more word
+--     length-held, holds-here, holds-set, holds-as      n words, and one more
 --     holds-after                what was put behind words that the table holds
 --     holds-false, holds-equal, holds-below, holds-implies, holds-since, holds-weak      the word of a node of each kind
 --     count-put, count-implies, count-since, count-weak, count-not      how many there are then
@@ -21,6 +21,9 @@ use Rattle.text.proofs.BuildLaws.{put-length, implies-length, since-len
 
 pub length-held : (n : ℕ) (table : List ℕ) → n ≤ 32 → length table ≡ 32 → length (take n table) ≡ n
 length-held n table h e = length-take-le n table (omega arith)
+
+pub holds-here : (table : List ℕ) (n : ℕ) → n ≤ 32 → length table ≡ 32 → Holds table n (take n table)
+holds-here table n h e = record { words = refl; count = sym (length-held n table h e); long = e }
 
 pub holds-set : (table : List ℕ) (n word : ℕ) → n < 32 → length table ≡ 32 → Holds (set table n word) (n + 1) (take n table ++ word ∷ [])
 holds-set table n word h e =

@@ -9,3 +9,4 @@ pub mod BuildLaws
 pub mod StackLaws
 pub mod HoldLaws
 pub mod UnwindLaws
+pub mod WaitLaws

@@ -1,6 +1,6 @@
 -- The words that wait for an operand (`specs/Stacks.antt`).
 --     stack-length, stack-set, stack-pushed, pushed-length      as they lie in an array
---     ends-alike                       or and implies
+--     ends-alike, begins-alike         words that put the same nodes
 --     weight, read-weight              nodes put and nodes owed: a token adds its cost
 --     entries-owed                     each owes one at least, so that the array is long enough
 --     read-small                       nodes to the left stay nodes of the table
@@ -74,12 +74,24 @@ ends-alike form (suc (suc (suc (suc (suc (suc zero)))))) l ws h = absurd (omega 
 ends-alike form (suc (suc (suc (suc (suc (suc (suc zero))))))) l ws h = (refl, refl)
 ends-alike form (suc (suc (suc (suc (suc (suc (suc (suc w)))))))) l ws h = (refl, refl)
 
+-- once, sofar and or alone put nodes where they are read
+pub begins-alike : (form : Form) (w : ℕ) (ws : List ℕ) → w ≢ 3 → w ≢ 4 → w ≢ 7 → ws ≡ begins form (waitingOf w) ws
+begins-alike form zero ws a b c = refl
+begins-alike form (suc zero) ws a b c = refl
+begins-alike form (suc (suc zero)) ws a b c = refl
+begins-alike form (suc (suc (suc zero))) ws a b c = absurd (a refl)
+begins-alike form (suc (suc (suc (suc zero)))) ws a b c = absurd (b refl)
+begins-alike form (suc (suc (suc (suc (suc zero))))) ws a b c = refl
+begins-alike form (suc (suc (suc (suc (suc (suc zero)))))) ws a b c = refl
+begins-alike form (suc (suc (suc (suc (suc (suc (suc zero))))))) ws a b c = absurd (c refl)
+begins-alike form (suc (suc (suc (suc (suc (suc (suc (suc w)))))))) ws a b c = refl
+
 -- ---- nodes put and nodes owed
 
 abbrev pub weight : Built (List ℕ) ℕ → ℕ
 weight x = length (x .value) + owed (x .stack)
 
-finish-some : (w : Waiting) → 1 ≤ finishCost w
+pub finish-some : (w : Waiting) → 1 ≤ finishCost w
 finish-some (awaiting not) = omega arith
 finish-some (awaiting wprev) = omega arith
 finish-some (awaiting prev) = omega arith

@@ -2,3 +2,4 @@ pub mod Tokens
 pub mod Places
 pub mod Building
 pub mod Stacks
+pub mod Pens

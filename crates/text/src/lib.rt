@@ -4,3 +4,4 @@ pub mod scan;
 pub mod stack;
 mod table;
 pub mod token;
+pub mod write;

@@ -144,7 +144,7 @@ pub(crate) fn read_token(text: &[u8], at: usize, s: Between) -> Lexed
     }
 }
 
-fn wanting(want: Want, depth: usize, touching: bool) -> Between
+pub(crate) fn wanting(want: Want, depth: usize, touching: bool) -> Between
     ensures { λ r. ⌜ scanOf r ≡ scanAt want depth touching ⌝ }
 {
     Between {
