@@ -10,3 +10,5 @@ pub mod StackLaws
 pub mod HoldLaws
 pub mod UnwindLaws
 pub mod WaitLaws
+pub mod PenLaws
+pub mod WritingLaws

@@ -18,13 +18,13 @@ use Rattle.text.specs.declared.token.Token.the-variants as token
 use Rattle.text.specs.declared.scan.Want.{Want}
 use Rattle.text.specs.declared.scan.Between.{Between}
 
-abbrev depthIn : Scan → ℕ
-depthIn (between t p) = p .depth
-depthIn (within x more w q) = q .depth
-depthIn (afterR d) = d
-depthIn (digits r n d) = d
+abbrev pub depthOf : Scan → ℕ
+depthOf (between t p) = p .depth
+depthOf (within x more w q) = q .depth
+depthOf (afterR d) = d
+depthOf (digits r n d) = d
 
-depth-after : (w : Want) (d : ℕ) (x : Token) → depthIn (scanAfter w d x) ≤ suc d
+depth-after : (w : Want) (d : ℕ) (x : Token) → depthOf (scanAfter w d x) ≤ suc d
 depth-after w d token.Space = omega arith
 depth-after w d (token.Constant v) = omega arith
 depth-after w d (token.Prefix p) = omega arith
@@ -43,7 +43,7 @@ pub record Turning (text : List ℕ) (s : Between) (at : ℕ) : Type 0 where
   pub shallow : s .depth ≤ at
 
 pub turning-start : (text : List ℕ) (s : Between) → scanOf s ≡ start → Turning text s 0
-turning-start text s e = record { same = ap (λ x. stuckFrom 0 x text) e; inside = omega arith; shallow = let z = ap depthIn e in omega arith }
+turning-start text s e = record { same = ap (λ x. stuckFrom 0 x text) e; inside = omega arith; shallow = let z = ap depthOf e in omega arith }
 
 module _ (text : List ℕ) (s : Between) (at : ℕ) (x : Turning text s at) where
   pub turning-next : (q : Between) (t : Token) (next : ℕ) → Over text at (scanOf s) t next (scanAfter (s .want) (s .depth) t)
@@ -51,7 +51,7 @@ module _ (text : List ℕ) (s : Between) (at : ℕ) (x : Turning text s at) wher
   turning-next q t next o e = record {
     same = ap (λ y. stuckFrom next y (drop next text)) e ∙ sym (o .stuck) ∙ x .same;
     inside = o .inside;
-    shallow = let d = depth-after (s .want) (s .depth) t in let z = ap depthIn e in let f = o .further in let h = x .shallow in omega arith;
+    shallow = let d = depth-after (s .want) (s .depth) t in let z = ap depthOf e in let f = o .further in let h = x .shallow in omega arith;
   }
 
   pub turning-stuck : (place : ℕ) → stuckFrom at (scanOf s) (drop at text) ≡ some place → refused 16 place ≡ question16 text

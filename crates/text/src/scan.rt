@@ -64,12 +64,52 @@ fn read_operand(text: &[u8], at: usize, depth: usize, touching: bool) -> Lexed
         b'(' => one_byte(Token::Open, at),
         b'r' => read_register(text, at, depth, touching),
         b't' => read_word(text, at, touching, b"true", Token::Constant { value: true }),
-        b'f' => read_word(text, at, touching, b"false", Token::Constant { value: false }),
-        b'n' => read_word(text, at, touching, b"not", Token::Prefix { word: Prefix::Not }),
-        b'w' => read_word(text, at, touching, b"wprev", Token::Prefix { word: Prefix::Wprev }),
-        b'p' => read_word(text, at, touching, b"prev", Token::Prefix { word: Prefix::Prev }),
-        b'o' => read_word(text, at, touching, b"once", Token::Prefix { word: Prefix::Once }),
-        b's' => read_word(text, at, touching, b"sofar", Token::Prefix { word: Prefix::Sofar }),
+        b'f' => read_word(
+            text,
+            at,
+            touching,
+            b"false",
+            Token::Constant { value: false },
+        ),
+        b'n' => read_word(
+            text,
+            at,
+            touching,
+            b"not",
+            Token::Prefix { word: Prefix::Not },
+        ),
+        b'w' => read_word(
+            text,
+            at,
+            touching,
+            b"wprev",
+            Token::Prefix {
+                word: Prefix::Wprev,
+            },
+        ),
+        b'p' => read_word(
+            text,
+            at,
+            touching,
+            b"prev",
+            Token::Prefix { word: Prefix::Prev },
+        ),
+        b'o' => read_word(
+            text,
+            at,
+            touching,
+            b"once",
+            Token::Prefix { word: Prefix::Once },
+        ),
+        b's' => read_word(
+            text,
+            at,
+            touching,
+            b"sofar",
+            Token::Prefix {
+                word: Prefix::Sofar,
+            },
+        ),
         _ => Lexed::Stuck { place: at },
     }
 }
@@ -119,10 +159,40 @@ fn read_operator(text: &[u8], at: usize, depth: usize, touching: bool) -> Lexed
 {
     match text[at] {
         b')' => read_close(at, depth),
-        b's' => read_word(text, at, touching, b"since", Token::Operator { word: Operator::Since }),
-        b'a' => read_word(text, at, touching, b"and", Token::Operator { word: Operator::And }),
-        b'o' => read_word(text, at, touching, b"or", Token::Operator { word: Operator::Or }),
-        b'i' => read_word(text, at, touching, b"implies", Token::Operator { word: Operator::Implies }),
+        b's' => read_word(
+            text,
+            at,
+            touching,
+            b"since",
+            Token::Operator {
+                word: Operator::Since,
+            },
+        ),
+        b'a' => read_word(
+            text,
+            at,
+            touching,
+            b"and",
+            Token::Operator {
+                word: Operator::And,
+            },
+        ),
+        b'o' => read_word(
+            text,
+            at,
+            touching,
+            b"or",
+            Token::Operator { word: Operator::Or },
+        ),
+        b'i' => read_word(
+            text,
+            at,
+            touching,
+            b"implies",
+            Token::Operator {
+                word: Operator::Implies,
+            },
+        ),
         _ => Lexed::Stuck { place: at },
     }
 }

@@ -13,13 +13,21 @@ ghost use Rattle.text.specs.Stacks.{waitingOf, comparisonOf, Holds};
 
 // The numbers of the words that wait for an operand.
 pub(crate) const NOT: usize = 0;
+
 pub(crate) const WPREV: usize = 1;
+
 pub(crate) const PREV: usize = 2;
+
 pub(crate) const ONCE: usize = 3;
+
 pub(crate) const SOFAR: usize = 4;
+
 pub(crate) const SINCE: usize = 5;
+
 pub(crate) const AND: usize = 6;
+
 pub(crate) const OR: usize = 7;
+
 pub(crate) const IMPLIES: usize = 8;
 
 // One more node, by its word.

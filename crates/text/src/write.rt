@@ -37,7 +37,7 @@ ghost use Rattle.grammar.specs.Reading.{awaiting, withLeft, rank, unwound, wait
 ghost use Rattle.text.specs.Tokens.{prefixOf, operatorOf, tokensIn};
 ghost use Rattle.text.specs.Building.{words, begins, beginCost, finishCost, tokenCost, cost};
 ghost use Rattle.text.specs.Stacks.{waitingOf, stackOf, builtOf, owed, Holds, Fitting};
-ghost use Rattle.text.specs.Pens.{Builds};
+ghost use Rattle.text.specs.Pens.{Builds, penAt, Ready, Takes, TableOf};
 
 // How many words wait and nodes are there, and the register and the sign of the atom that is being read.
 pub struct Pen {
@@ -167,4 +167,106 @@ fn nodes_for(token: Token) -> usize
         Token::Equal => 0,
         Token::Below => 0,
     }
+}
+
+fn at_height(pen: Pen, top: usize, count: usize) -> Pen
+    ensures { λ r. ⌜ r ≡ penAt pen top count ⌝ }
+{
+    Pen {
+        height: Height { top, count },
+        register: pen.register,
+        below: pen.below,
+    }
+}
+
+// What a token puts and leaves waiting.
+fn take_token(
+    token: Token,
+    pen: Pen,
+    depth: usize,
+    stack: &mut [usize; 96],
+    table: &mut [u32; 32],
+) -> Pen
+    requires { ⌜ Ready (now stack) (now table) pen token ⌝ }
+    ensures { λ r. ⌜ Takes (now (stack .entry)) (now (table .entry)) pen depth token (now (stack .exit)) (now (table .exit)) r ⌝ }
+{
+    let height = pen.height;
+    let top = height.top;
+    let count = height.count;
+    match token {
+        Token::Space => pen,
+        Token::Constant { value } => at_height(pen, top, put_constant(table, count, value)),
+        Token::Prefix { word } => {
+            let h = wait(stack, top, table, count, prefix_number(word), depth);
+            at_height(pen, h.top, h.count)
+        }
+        Token::Operator { word } => {
+            let h = join(
+                stack,
+                top,
+                table,
+                count,
+                operator_number(word),
+                depth,
+                operator_level(word),
+            );
+            at_height(pen, h.top, h.count)
+        }
+        Token::Register { number } => Pen {
+            height,
+            register: number,
+            below: pen.below,
+        },
+        Token::Number { number } => at_height(
+            pen,
+            top,
+            put_test(table, count, pen.below, pen.register, number),
+        ),
+        Token::Open => pen,
+        Token::Close => pen,
+        Token::Equal => Pen {
+            height,
+            register: pen.register,
+            below: false,
+        },
+        Token::Below => Pen {
+            height,
+            register: pen.register,
+            below: true,
+        },
+    }
+}
+
+// The nodes of a text that questions 16 and 17 have let pass, at the start of the table. Hands back how many there are; where there are
+// more than 32, some number above, and the table holds nothing of use.
+pub(crate) fn write_nodes(text: &[u8], table: &mut [u32; 32]) -> usize
+    requires { ⌜ (question16 (now text) ≡ passed tt) × (question17 (now text) ≡ passed tt) × (length (now table) ≡ 32) ⌝ }
+    ensures { λ r. ⌜ TableOf (now (text .entry)) (now (table .exit)) r ⌝ }
+{
+    let mut stack = [0usize; 96];
+    let mut pen = Pen {
+        height: Height { top: 0, count: 0 },
+        register: 0,
+        below: false,
+    };
+    let mut s = wanting(Want::Operand, 0, false);
+    let mut total: usize = 0;
+    let mut at = 0;
+    while at < text.len() {
+        let read = read_token(text, at, s);
+        // Question 16 has been asked: there is a token.
+        let Lexed::Found { token, next } = read else {
+            return 33;
+        };
+        total += nodes_for(token);
+        if 32 < total {
+            return total;
+        }
+        pen = take_token(token, pen, s.depth, &mut stack, table);
+        s = after_token(s, token);
+        at = next;
+    }
+    let height = pen.height;
+    let ended = unwind(&stack, height.top, table, height.count, 0, 0);
+    ended.count
 }

@@ -19,10 +19,10 @@ ends-top-requires : tie.Need-ends-top-requires Inv-loop μ-loop
 ends-top-requires c κs = (few-waiting _ _ _ _ (c .loop .inv .fits), c .before .pre .1)
 
 sub-base : tie.Need-sub-base Inv-loop μ-loop
-sub-base c = omega (arith, unwinding-some _ _ _ _ _ _ _ _ (c .before .before .loop .inv) (sym (c .before .ends-top .ensures) ∙ c  .if1 .taken), few-waiting _ _ _ _ (c .before .before .loop .inv .fits))
+sub-base c = omega (arith, unwinding-some _ _ _ _ _ _ _ _ (c .before .before .loop .inv) (sym (c .before .ends-top .ensures) ∙ c .if1 .taken), few-waiting _ _ _ _ (c .before .before .loop .inv .fits))
 
 mul-base : tie.Need-mul-base Inv-loop μ-loop
-mul-base c = omega (arith, unwinding-some _ _ _ _ _ _ _ _ (c .before .before .loop .inv) (sym (c .before .ends-top .ensures) ∙ c  .if1 .taken), few-waiting _ _ _ _ (c .before .before .loop .inv .fits))
+mul-base c = omega (arith, unwinding-some _ _ _ _ _ _ _ _ (c .before .before .loop .inv) (sym (c .before .ends-top .ensures) ∙ c .if1 .taken), few-waiting _ _ _ _ (c .before .before .loop .inv .fits))
 
 mul-put-end : tie.Need-mul-put-end Inv-loop μ-loop
 mul-put-end c = omega (arith, unwinding-some _ _ _ _ _ _ _ _ (c .before .before .before .loop .inv) (sym (c .before .before .ends-top .ensures) ∙ c .before .if1 .taken), few-waiting _ _ _ _ (c .before .before .before .loop .inv .fits))
