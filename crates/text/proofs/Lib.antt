@@ -12,3 +12,4 @@ pub mod UnwindLaws
 pub mod WaitLaws
 pub mod PenLaws
 pub mod WritingLaws
+pub mod AnswerLaws

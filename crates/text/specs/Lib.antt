@@ -3,3 +3,4 @@ pub mod Places
 pub mod Building
 pub mod Stacks
 pub mod Pens
+pub mod Answers

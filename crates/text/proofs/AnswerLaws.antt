@@ -1,0 +1,125 @@
+-- What reading a text answers (`specs/Answers.antt`).
+--     reads-grammar, reads-range     16 and 17 refuse
+--     table-long, reads-many, reads-short, reads-written      18 refuses, 13 refuses, the words are written
+--     Copied, copied-start, copied-length, copied-next, copied-end      words copied to the start of the output
+-- Assumes nothing.
+use mathlib.Core.Path.{_≡_, refl, sym, subst, ap, ap₂, _∙_}
+use mathlib.Core.Logic.{_⊎_, inl, inr}
+use mathlib.Core.List.{List, [], _∷_, _++_}
+use Prim.Native.Nat.{ℕ, suc, _+_, _-_, _≤_, _<_}
+use native.Mathlib.Numerals.{add-one}
+use native.Mathlib.Omega.{arith}
+use lib.ListN.{length, getD, take, drop, set, length-append, length-drop}
+use lib.Seq.{drop-cons, set-at, take-suc, length-take-le, append-snoc}
+use Rattle.spec.specs.Questions.{Answer, passed, refused, _then_}
+use Rattle.spec.specs.Rule.{form32}
+use Rattle.spec.proofs.BoolLaws.{le-or-lt}
+use Rattle.spec.proofs.QuestionLaws.{then-passed, then-refused}
+use Rattle.spec.proofs.StoredLaws.{good32}
+use Rattle.grammar.specs.Typed.{opened}
+use Rattle.grammar.specs.Scan.{question16}
+use Rattle.grammar.specs.Reading.{formulaOf}
+use Rattle.grammar.specs.Nodes.{size, ruleWords}
+use Rattle.grammar.specs.Texting.{question17, writing, texting, countOf, outputOf}
+use Rattle.grammar.proofs.TableLaws.{length-words}
+use Rattle.grammar.proofs.TextLaws.{writing-in, writing-many, writing-few}
+use Rattle.text.specs.Stacks.{Holds}
+use Rattle.text.specs.Pens.{TableOf}
+use Rattle.text.specs.Answers.{nodesOf, Reads}
+use Rattle.text.specs.declared.Typed.{Typed}
+use Rattle.text.specs.declared.Typed.the-variants.{Nodes, Refused}
+
+-- ---- words copied
+
+-- the first i of n
+pub record Copied (table before : List ℕ) (n : ℕ) (out : List ℕ) (i : ℕ) : Type 0 where
+  pub few : i ≤ n
+  pub words : out ≡ take i table ++ drop i before
+
+pub copied-start : (table before : List ℕ) (n : ℕ) → Copied table before n before 0
+copied-start table before n = record { few = omega arith; words = refl }
+
+module _ (table before : List ℕ) (n : ℕ) (out : List ℕ) (i : ℕ) (x : Copied table before n out i) (enough : n ≤ length table) (room : n ≤ length before) where
+  pub copied-length : length out ≡ length before
+  copied-length =
+      let f = x .few in
+      let a = ap length (x .words) in
+      let b = length-append (take i table) (drop i before) in
+      let c = length-take-le i table (omega arith) in
+      let d = length-drop i before in omega arith
+
+  pub copied-next : i < n → Copied table before n (set out i (getD table i 0)) (i + 1)
+  copied-next h =
+      let v = getD table i 0 in
+      let k : i < length table = omega arith in
+      let l : i < length before = omega arith in
+      record {
+        few = omega arith;
+        words = ap (λ o. set o i v) (x .words) ∙ ap (λ o. set (take i table ++ o) i v) (drop-cons before i 0 l)
+            ∙ set-at (take i table) (getD before i 0) (drop (suc i) before) v i (length-take-le i table (omega arith))
+            ∙ sym (append-snoc (take i table) v (drop (suc i) before)) ∙ ap (λ o. o ++ drop (suc i) before) (sym (take-suc table i 0 k))
+            ∙ ap (λ m. take m table ++ drop m before) (sym (add-one i));
+      }
+
+  pub copied-end : n ≤ i → out ≡ take n table ++ drop n before
+  copied-end h = let z : i ≡ n = let f = x .few in omega arith in x .words ∙ ap (λ m. take m table ++ drop m before) z
+
+-- ---- the answer
+
+module _ (text before : List ℕ) where
+  abbrev answer : Answer (List ℕ)
+  answer = texting form32 (length before) text
+
+  refuses : (q i : ℕ) → answer ≡ refused q i → Reads text before before (Refused q i)
+  refuses q i e = record { answer = sym (ap countOf e); output = sym (ap (λ a. outputOf a before) e) }
+
+  pub reads-grammar : (q i : ℕ) → refused q i ≡ question16 text → Reads text before before (Refused q i)
+  unfolding texting
+  reads-grammar q i e = refuses q i (then-refused (question16 text) _ q i (sym e))
+
+  module _ (q₁₆ : question16 text ≡ passed tt) where
+    pub reads-range : (q i : ℕ) → refused q i ≡ question17 text → Reads text before before (Refused q i)
+    unfolding texting
+    reads-range q i e = refuses q i (then-passed (question16 text) _ q₁₆ ∙ then-refused (question17 text) _ q i (sym e))
+
+    module _ (q₁₇ : question17 text ≡ passed tt) (table : List ℕ) (n : ℕ) (t : TableOf text table n) where
+      abbrev nodes : ℕ
+      nodes = size (opened (formulaOf text))
+
+      asked : answer ≡ writing form32 (length before) (opened (formulaOf text))
+      unfolding texting
+      asked = then-passed (question16 text) _ q₁₆ ∙ then-passed (question17 text) _ q₁₇
+
+      counted : nodes ≤ 32 → n ≡ nodes
+      counted h = let a = t .few h .count in let b = length-words form32 good32 (opened (formulaOf text)) in omega arith
+
+      few : n ≤ 32 → nodes ≤ 32
+      few h = elim (le-or-lt nodes 32) [ inl k ↦ k | inr k ↦ let z = t .many k in absurd (omega arith) ]
+
+      pub table-long : n ≤ 32 → length table ≡ 32
+      table-long h = t .few (few h) .long
+
+      pub reads-many : 32 < n → Reads text before before (Refused 18 0)
+      unfolding form32
+      reads-many h =
+          let k : 32 < nodes = elim (le-or-lt nodes 32) [ inl k ↦ let z = counted k in absurd (omega arith) | inr k ↦ k ] in
+          refuses 18 0 (asked ∙ writing-many form32 good32 (length before) (opened (formulaOf text)) k)
+
+      pub reads-short : n ≤ 32 → length before < n → Reads text before before (Refused 13 0)
+      unfolding form32
+      reads-short h l =
+          let k = few h in
+          let z = counted k in
+          refuses 13 0 (asked ∙ writing-few form32 good32 (length before) (opened (formulaOf text)) k (omega arith))
+
+      pub reads-written : n ≤ 32 → n ≤ length before → Reads text before (take n table ++ drop n before) (Nodes n)
+      unfolding form32
+      reads-written h l =
+          let k = few h in
+          let z = counted k in
+          let w = t .few k in
+          let e = asked ∙ writing-in form32 good32 (length before) (opened (formulaOf text)) k (omega arith) in
+          record {
+            answer = ap passed (w .count) ∙ sym (ap countOf e);
+            output = ap₂ (λ ws m. ws ++ drop m before) (w .words) (w .count) ∙ sym (ap (λ a. outputOf a before) e);
+          }

@@ -1,0 +1,31 @@
+-- `text::write_table` meets its contract. Assumes nothing.
+use mathlib.Core.Path.{sym, subst}
+use borrow.Author.Needs.{needs}
+use Rattle.text.specs.declared.Typed.the-variants.{Nodes}
+use Rattle.text.specs.Answers.{Reads}
+use Rattle.text.proofs.AnswerLaws.{table-long, reads-many, reads-short, reads-written}
+use Rattle.text.proofs.write_table.Statement.{statement}
+use Rattle.text.proofs.write_table.Tie as tie
+
+write-nodes-requires : tie.Need-write-nodes-requires
+write-nodes-requires c κs = search needs
+
+returns : tie.Need-returns
+returns c = reads-many (c .before .before .before .before .before .args .text .now) (c .before .before .before .before .before .args .out .now) (c .before .before .before .before .before .pre .0) (c .before .before .before .before .before .pre .1) _ _ (c .before .write-nodes .ensures) (c .if1 .taken)
+
+returns-2 : tie.Need-returns-2
+returns-2 c = reads-short (c .before .before .before .before .before .before .args .text .now) (c .before .before .before .before .before .before .args .out .now) (c .before .before .before .before .before .before .pre .0) (c .before .before .before .before .before .before .pre .1) _ _ (c .before .before .write-nodes .ensures) (c .before .if1 .left) (c .if2 .taken)
+
+copy-words-requires : tie.Need-copy-words-requires
+copy-words-requires c κs = (c .before .before .before .if1 .left, c .before .before .if2 .left, table-long (c .before .before .before .before .before .before .before .before .args .text .now) (c .before .before .before .before .before .before .before .before .args .out .now) (c .before .before .before .before .before .before .before .before .pre .0) (c .before .before .before .before .before .before .before .before .pre .1) _ _ (c .before .before .before .before .write-nodes .ensures) (c .before .before .before .if1 .left))
+
+same-length : tie.Need-same-length
+same-length c = search needs
+
+returns-3 : tie.Need-returns-3
+returns-3 c = subst (λ o. Reads (c .before .before .before .before .before .before .before .before .before .before .before .args .text .now) (c .before .before .before .before .before .before .before .before .before .before .before .args .out .now) o (Nodes (c .before .before .before .before .before .before .before .write-nodes .result))) (sym (c .before .before .copy-words .ensures)) (reads-written (c .before .before .before .before .before .before .before .before .before .before .before .args .text .now) (c .before .before .before .before .before .before .before .before .before .before .before .args .out .now) (c .before .before .before .before .before .before .before .before .before .before .before .pre .0) (c .before .before .before .before .before .before .before .before .before .before .before .pre .1) _ _ (c .before .before .before .before .before .before .before .write-nodes .ensures) (c .before .before .before .before .before .before .if1 .left) (c .before .before .before .before .before .if2 .left))
+
+pub write-table-spec : {M : Type 1} → statement M
+write-table-spec =
+    tie.close
+    (tie.spec write-nodes-requires returns returns-2 copy-words-requires same-length returns-3)
