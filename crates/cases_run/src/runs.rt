@@ -11,7 +11,7 @@ use machine::Machine;
 use machine::answer::Stop;
 use rule::node::past_at;
 use sets::has;
-use weaver::Woven;
+use rule::answer::Counted;
 use words::word_at;
 ghost use Prim.Native.Nat.{_≤_};
 
@@ -87,8 +87,8 @@ fn answer_woven(rule: &[u32], script: &[u32], inputs: &[u16], budget: u64, histo
 fn answer_bare(rule: &[u32], bare: &[u32], inputs: &[u16], budget: u64, history: &mut [u16]) {
     let mut out = [0u32; 8192];
     match weaver::weave(rule, bare, &mut out) {
-        Woven::Refused { question, place } => print_refused(question, place),
-        Woven::Lines(lines) => {
+        Counted::Refused { question, place } => print_refused(question, place),
+        Counted::Count(lines) => {
             if lines <= 1024 {
                 answer_woven(rule, &out[..8 * lines], inputs, budget, history);
             }

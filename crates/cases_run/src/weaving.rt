@@ -2,13 +2,13 @@
 use crate::printing::print_named;
 use crate::printing::print_refused;
 use crate::printing::print_words;
-use weaver::Woven;
+use rule::answer::Counted;
 ghost use Prim.Native.Nat.{_≤_};
 
-fn print_woven(w: Woven) {
+fn print_woven(w: Counted) {
     match w {
-        Woven::Refused { question, place } => print_refused(question, place),
-        Woven::Lines(lines) => print_named(b"lines", lines as u64),
+        Counted::Refused { question, place } => print_refused(question, place),
+        Counted::Count(lines) => print_named(b"lines", lines as u64),
     }
 }
 

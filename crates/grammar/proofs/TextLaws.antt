@@ -3,6 +3,7 @@
 --     text-promise32    for document 01's
 -- Assumes nothing.
 use mathlib.Core.Path.{_≡_, refl, sym, subst, ap, _∙_}
+use mathlib.Core.Logic.{_⊎_, inl, inr}
 use mathlib.Core.Bool.{true, false}
 use mathlib.Core.List.{List}
 use Prim.Native.Nat.{ℕ, _≤_, _<_}
@@ -11,19 +12,19 @@ use lib.ListN.{length}
 use lib.Dec.{leb}
 use borrow.Author.Tests.{leb-true, le-leb, lt-leb}
 use Rattle.spec.specs.Logic.{Trace, Formula}
-use Rattle.spec.specs.Questions.{Answer, passed, refused, _then_, askOnce}
+use Rattle.spec.specs.Questions.{Answer, passed, refused, _then_, firstFailing, ask, askOnce}
 use Rattle.spec.specs.Rule.{Form, form32, tableOf, ruleOf}
 use Rattle.spec.specs.Judging.{Verdict, breach, clean, verdictOn, Means as VerdictMeans}
-use Rattle.spec.proofs.QuestionLaws.{then-passed, then-refused, both-passed, once-in, once-no, once-out}
+use Rattle.spec.proofs.QuestionLaws.{then-passed, then-refused, then-no, both-passed, once-in, once-no, once-out, once-number, no-number}
 use Rattle.spec.proofs.JudgingLaws.{verdict-means}
 use Rattle.spec.proofs.StoredLaws.{GoodForm, good32}
 use Rattle.grammar.specs.Typed.{Prefix, not, wprev, prev, once, sofar, Operator, sinceWord, andWord, orWord, impliesWord, Comparison, equalTo, lessThan, testOf, TextFormula, constant, atom, prefixed, joined, opened, openedPrefix, openedOperator}
-use Rattle.grammar.specs.Grammar.{IsText}
-use Rattle.grammar.specs.Scan.{question16}
+use Rattle.grammar.specs.Grammar.{IsText, StuckAt}
+use Rattle.grammar.specs.Scan.{start, stuckFrom, question16}
 use Rattle.grammar.specs.Reading.{formulaOf}
 use Rattle.grammar.specs.Nodes.{size, ruleWords}
-use Rattle.grammar.specs.Texting.{question17, writing, texting}
-use Rattle.grammar.specs.TextPromise.{Judged, InRange, TableFor, TextPromise}
+use Rattle.grammar.specs.Texting.{inRangeAt, question17, writing, texting}
+use Rattle.grammar.specs.TextPromise.{Judged, InRange, OutOfRangeAt, TableFor, TextPromise}
 use Rattle.grammar.proofs.TypedLaws.{opened-agrees}
 use Rattle.grammar.proofs.ScanLaws.{text-passes, passes-text, text-formula, text-one}
 use Rattle.grammar.proofs.StuckLaws.{stuck-at, stuck-one}
@@ -62,6 +63,16 @@ opened-small (joined o φ ψ) r = operator-small o (opened φ) (opened ψ) (open
 judged : (σ : Trace) (φ : TextFormula) (v : Verdict) → VerdictMeans σ (opened φ) v → Judged σ φ v
 judged σ φ (breach i) m = (m .0, λ a. m .1 (opened-agrees σ φ i .0 a), λ j l. opened-agrees σ φ j .1 (m .2 j l))
 judged σ φ (clean n) m = (m .0, λ j l. opened-agrees σ φ j .1 (m .1 j l))
+
+-- ---- a refusal has its question's number
+
+number16 : (bs : List ℕ) (q i : ℕ) → question16 bs ≡ refused q i → 16 ≡ q
+unfolding question16
+number16 bs q i e = no-number 16 q i (stuckFrom 0 start bs) e
+
+number17 : (bs : List ℕ) (q i : ℕ) → question17 bs ≡ refused q i → 17 ≡ q
+unfolding question17 ask
+number17 bs q i e = no-number 17 q i (firstFailing (length bs) 0 (inRangeAt bs)) e
 
 -- ---- the table
 
@@ -106,6 +117,39 @@ module _ (form : Form) (good : GoodForm form) where
   writing-few lent φ a b =
       then-passed _ _ (once-in 18 _ (le-leb (size φ) (form .width) a)) ∙ then-refused _ _ 13 0 (once-no 13 _ (lt-leb (size φ) lent b))
 
+  writing-number : (lent : ℕ) (φ : Formula) (q i : ℕ) → writing form lent φ ≡ refused q i → (18 ≡ q) ⊎ (13 ≡ q)
+  unfolding writing
+  writing-number lent φ q i e =
+      elim (then-no (askOnce 18 (leb (size φ) (form .width))) _ q i e) [
+        | inl a ↦ inl (once-number 18 q i _ a)
+        | inr (a, b) ↦ elim (then-no (askOnce 13 (leb (size φ) lent)) _ q i b) [
+          | inl c ↦ inr (once-number 13 q i _ c)
+          | inr (c, d) ↦ let z : _≡_ {A = ℕ} 0 1 = cc in absurd (omega arith)
+          ]
+      ]
+
+  stuck-out : (bs : List ℕ) (lent i : ℕ) → texting form lent bs ≡ refused 16 i → StuckAt bs i
+  unfolding texting
+  stuck-out bs lent i e =
+      elim (then-no (question16 bs) _ 16 i e) [
+        | inl a ↦ stuck-at bs i a
+        | inr (a, b) ↦ elim (then-no (question17 bs) _ 16 i b) [
+          | inl c ↦ let z = number17 bs 16 i c in absurd (omega arith)
+          | inr (c, d) ↦ elim (writing-number lent (opened (formulaOf bs)) 16 i d) [ inl z ↦ absurd (omega arith) | inr z ↦ absurd (omega arith) ]
+          ]
+      ]
+
+  range-out : (bs : List ℕ) (lent i : ℕ) → texting form lent bs ≡ refused 17 i → OutOfRangeAt false bs i
+  unfolding texting
+  range-out bs lent i e =
+      elim (then-no (question16 bs) _ 17 i e) [
+        | inl a ↦ let z = number16 bs 17 i a in absurd (omega arith)
+        | inr (a, b) ↦ elim (then-no (question17 bs) _ 17 i b) [
+          | inl c ↦ let (φ, x) = passes-text bs a in range-at bs φ x i c
+          | inr (c, d) ↦ elim (writing-number lent (opened (formulaOf bs)) 17 i d) [ inl z ↦ absurd (omega arith) | inr z ↦ absurd (omega arith) ]
+          ]
+      ]
+
   table-out : (bs : List ℕ) (lent : ℕ) (ws : List ℕ) → texting form lent bs ≡ passed ws
       → (φ : TextFormula) × IsText bs φ × TableFor form φ ws × (length ws ≤ lent)
   unfolding texting
@@ -122,10 +166,10 @@ module _ (form : Form) (good : GoodForm form) where
     meaning = opened-agrees;
     one = text-one;
     texts = λ bs. (passes-text bs, λ x. text-passes bs (x .0) (x .1));
-    stuck = stuck-at;
+    stuck = stuck-out;
     stuck-once = stuck-one;
     ranges = ranges-agree;
-    out-of-range = range-at;
+    out-of-range = range-out;
     too-many = λ bs φ x r many lent. text-writing bs φ x r lent ∙ writing-many lent (opened φ) many;
     too-few = λ bs φ x r few lent short. text-writing bs φ x r lent ∙ writing-few lent (opened φ) few short;
     written = λ bs φ x r few lent room. (ruleWords form (opened φ), text-writing bs φ x r lent ∙ writing-in lent (opened φ) few room);

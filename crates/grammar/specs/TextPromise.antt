@@ -81,11 +81,11 @@ pub record TextPromise (form : Form) : Type 0 where
   -- 16 refuses just the texts outside the grammar,
   pub texts : (bs : List ℕ) → (question16 bs ≡ passed tt) ↔ ((φ : TextFormula) × IsText bs φ)
   -- at the first byte that no continuation could follow, or at the length where it ends too soon; there is one such place
-  pub stuck : (bs : List ℕ) (i : ℕ) → question16 bs ≡ refused 16 i → StuckAt bs i
+  pub stuck : (bs : List ℕ) (lent i : ℕ) → texting form lent bs ≡ refused 16 i → StuckAt bs i
   pub stuck-once : (bs : List ℕ) (i j : ℕ) → StuckAt bs i → StuckAt bs j → i ≡ j
   -- 17 refuses just the texts with a number out of range, at the first such number's first byte
   pub ranges : (bs : List ℕ) (φ : TextFormula) → IsText bs φ → (question17 bs ≡ passed tt) ↔ InRange φ
-  pub out-of-range : (bs : List ℕ) (φ : TextFormula) → IsText bs φ → (i : ℕ) → question17 bs ≡ refused 17 i → OutOfRangeAt false bs i
+  pub out-of-range : (bs : List ℕ) (lent i : ℕ) → texting form lent bs ≡ refused 17 i → OutOfRangeAt false bs i
   -- 18: more nodes than the rule's stored form allows; 13: too few words in the output
   pub too-many : (bs : List ℕ) (φ : TextFormula) → IsText bs φ → InRange φ → form .width < size (opened φ)
       → (lent : ℕ) → texting form lent bs ≡ refused 18 0

@@ -43,10 +43,10 @@ resultFor n lent a = cond (roomFor n lent) (numberOf a) tooShort
 abbrev pub checkedWords : Checked → List ℕ
 checkedWords a = placeOf a ∷ []
 
--- place, lines
-abbrev pub wovenWords : Answer ℕ → List ℕ
-wovenWords (passed n) = 0 ∷ n ∷ []
-wovenWords (refused q i) = i ∷ 0 ∷ []
+-- place, count of what was written
+abbrev pub countWords : Answer ℕ → List ℕ
+countWords (passed n) = 0 ∷ n ∷ []
+countWords (refused q i) = i ∷ 0 ∷ []
 
 -- place, 1 for a breach, its index, the number of states where there is none
 abbrev pub verdictWords : Answer Verdict → List ℕ

@@ -4,7 +4,7 @@
 use crate::notes::note_place;
 use crate::notes::note_report;
 use crate::notes::note_verdict;
-use crate::notes::note_woven;
+use crate::notes::note_count;
 use crate::states::put_machine;
 use crate::states::read_machine;
 use crate::states::registers_fit;
@@ -14,22 +14,37 @@ use machine::run;
 use rule::check_rule;
 use rule::verdict;
 use script::check_bare;
+use text::read_text;
 use weaver::weave;
 ghost use mathlib.Core.Path.{_≡_};
 ghost use mathlib.Core.Bool.{cond};
 ghost use mathlib.Core.List.{[], _++_};
-ghost use lib.ListN.{drop};
+ghost use lib.ListN.{length, drop};
 ghost use Rattle.spec.specs.Rule.{form32, checkRule};
 ghost use Rattle.spec.specs.Judging.{judging};
 ghost use Rattle.spec.specs.Script.{checkBare};
 ghost use Rattle.spec.specs.Check.{checkScript};
 ghost use Rattle.spec.specs.Machine.{freshOf, running, reportOf, historyAfter};
 ghost use Rattle.spec.specs.Weaver.{weaving, outputAfter};
-ghost use Rattle.guard.specs.Numbers.{roomFor, tooShort, withWords, resultFor, checkedWords, wovenWords, verdictWords, reportWords};
+ghost use Rattle.grammar.specs.Texting.{texting, countOf, outputOf};
+ghost use Rattle.guard.specs.Numbers.{roomFor, tooShort, withWords, resultFor, checkedWords, countWords, verdictWords, reportWords};
 ghost use Rattle.guard.specs.States.{stateLength, stateWords, isStated, stepResult, stepped};
 
 mod notes;
 mod states;
+
+// A rule typed as text: questions 16, 17, 18 and 13. Two words: place, nodes. The nodes go to `out`, a word each.
+#[no_mangle]
+pub extern "C" fn guard_text(text: &[u8], out: &mut [u32], numbers: &mut [u64]) -> u32
+    ensures result { λ r. ⌜ r ≡ resultFor 2 (now (numbers .entry)) (countOf (texting form32 (length (now (out .entry))) (now (text .entry)))) ⌝ }
+    ensures words { λ r. ⌜ now (numbers .exit) ≡ withWords 2 (countWords (countOf (texting form32 (length (now (out .entry))) (now (text .entry))))) (now (numbers .entry)) ⌝ }
+    ensures output { λ r. ⌜ now (out .exit) ≡ cond (roomFor 2 (now (numbers .entry))) (outputOf (texting form32 (length (now (out .entry))) (now (text .entry))) (now (out .entry))) (now (out .entry)) ⌝ }
+{
+    if numbers.len() < 2 {
+        return 99;
+    }
+    note_count(read_text(text, out), numbers)
+}
 
 // A rule: questions 1 to 4. One word: place.
 #[no_mangle]
@@ -76,13 +91,13 @@ pub extern "C" fn guard_weave(
     numbers: &mut [u64],
 ) -> u32
     ensures result { λ r. ⌜ r ≡ resultFor 2 (now (numbers .entry)) (weaving form32 (now (rule .entry)) (now (bare .entry)) (now (out .entry))) ⌝ }
-    ensures words { λ r. ⌜ now (numbers .exit) ≡ withWords 2 (wovenWords (weaving form32 (now (rule .entry)) (now (bare .entry)) (now (out .entry)))) (now (numbers .entry)) ⌝ }
+    ensures words { λ r. ⌜ now (numbers .exit) ≡ withWords 2 (countWords (weaving form32 (now (rule .entry)) (now (bare .entry)) (now (out .entry)))) (now (numbers .entry)) ⌝ }
     ensures output { λ r. ⌜ now (out .exit) ≡ cond (roomFor 2 (now (numbers .entry))) (outputAfter form32 (now (rule .entry)) (now (bare .entry)) (now (out .entry))) (now (out .entry)) ⌝ }
 {
     if numbers.len() < 2 {
         return 99;
     }
-    note_woven(weave(rule, bare, out), numbers)
+    note_count(weave(rule, bare, out), numbers)
 }
 
 // The verdict on a history: questions 1 to 4, 14 and 15 first. Four words: place; 1 where the rule is false somewhere; the lowest

@@ -2,16 +2,15 @@
 use machine::answer::RunAnswer;
 use machine::answer::Stop;
 use rule::answer::Answer;
+use rule::answer::Counted;
 use rule::answer::Verdict;
-use weaver::Woven;
 ghost use mathlib.Core.Path.{_≡_};
 ghost use mathlib.Core.List.{_∷_, [], _++_};
 ghost use Prim.Native.Nat.{_+_, _≤_};
 ghost use lib.ListN.{length, take, drop};
-ghost use Rattle.rule.specs.Answers.{answerOf, verdictOf};
+ghost use Rattle.rule.specs.Answers.{answerOf, countedOf, verdictOf};
 ghost use Rattle.machine.specs.Runs.{stopOf, reportIn};
-ghost use Rattle.weaver.specs.Answers.{wovenOf};
-ghost use Rattle.guard.specs.Numbers.{numberOf, placeOf, checkedWords, wovenWords, verdictWords, stopNumber, reportWords};
+ghost use Rattle.guard.specs.Numbers.{numberOf, placeOf, checkedWords, countWords, verdictWords, stopNumber, reportWords};
 
 // The number handed back; the place is written.
 pub(crate) fn note_place(a: Answer, numbers: &mut [u64]) -> u32
@@ -31,21 +30,21 @@ pub(crate) fn note_place(a: Answer, numbers: &mut [u64]) -> u32
     }
 }
 
-// The number handed back; place and lines are written.
-pub(crate) fn note_woven(w: Woven, numbers: &mut [u64]) -> u32
+// The number handed back; place and count are written.
+pub(crate) fn note_count(w: Counted, numbers: &mut [u64]) -> u32
     requires { ⌜ 2 ≤ length (now numbers) ⌝ }
-    ensures result { λ r. ⌜ r ≡ numberOf (wovenOf w) ⌝ }
-    ensures words { λ r. ⌜ now (numbers .exit) ≡ wovenWords (wovenOf w) ++ drop 2 (now (numbers .entry)) ⌝ }
+    ensures result { λ r. ⌜ r ≡ numberOf (countedOf w) ⌝ }
+    ensures words { λ r. ⌜ now (numbers .exit) ≡ countWords (countedOf w) ++ drop 2 (now (numbers .entry)) ⌝ }
 {
     match w {
-        Woven::Refused { question, place } => {
+        Counted::Refused { question, place } => {
             numbers[0] = place as u64;
             numbers[1] = 0;
             question
         }
-        Woven::Lines(lines) => {
+        Counted::Count(n) => {
             numbers[0] = 0;
-            numbers[1] = lines as u64;
+            numbers[1] = n as u64;
             0
         }
     }

@@ -2,7 +2,7 @@
 use crate::input::load_counted;
 use crate::text::put_lines;
 use crate::text::put_refused;
-use weaver::Woven;
+use rule::answer::Counted;
 use weaver::weave;
 ghost use mathlib.Core.Path.{_≡_};
 ghost use mathlib.Core.List.{_++_};
@@ -17,8 +17,8 @@ fn list_woven(rule: &[u32], bare: &[u32], out: &mut [u8; 32768]) -> usize
     let mut words = [0u32; 8192];
     let woven = weave(rule, bare, &mut words);
     match woven {
-        Woven::Refused { question, place } => put_refused(question, place, out),
-        Woven::Lines(n) => put_lines(&words, n, out),
+        Counted::Refused { question, place } => put_refused(question, place, out),
+        Counted::Count(n) => put_lines(&words, n, out),
     }
 }
 

@@ -1,6 +1,7 @@
 -- What reading a text answers (`specs/Answers.antt`).
 --     reads-grammar, reads-range     16 and 17 refuse
 --     table-long, reads-many, reads-short, reads-written      18 refuses, 13 refuses, the words are written
+--     reads-tell                     and what the answer tells
 --     Copied, copied-start, copied-length, copied-next, copied-end      words copied to the start of the output
 -- Assumes nothing.
 use mathlib.Core.Path.{_≡_, refl, sym, subst, ap, ap₂, _∙_}
@@ -10,7 +11,7 @@ use Prim.Native.Nat.{ℕ, suc, _+_, _-_, _≤_, _<_}
 use native.Mathlib.Numerals.{add-one}
 use native.Mathlib.Omega.{arith}
 use lib.ListN.{length, getD, take, drop, set, length-append, length-drop}
-use lib.Seq.{drop-cons, set-at, take-suc, length-take-le, append-snoc}
+use lib.Seq.{drop-cons, set-at, take-suc, take-append-seam, length-take-le, append-snoc}
 use Rattle.spec.specs.Questions.{Answer, passed, refused, _then_}
 use Rattle.spec.specs.Rule.{form32}
 use Rattle.spec.proofs.BoolLaws.{le-or-lt}
@@ -20,14 +21,16 @@ use Rattle.grammar.specs.Typed.{opened}
 use Rattle.grammar.specs.Scan.{question16}
 use Rattle.grammar.specs.Reading.{formulaOf}
 use Rattle.grammar.specs.Nodes.{size, ruleWords}
+use Rattle.grammar.specs.TextPromise.{TableFor}
 use Rattle.grammar.specs.Texting.{question17, writing, texting, countOf, outputOf}
 use Rattle.grammar.proofs.TableLaws.{length-words}
-use Rattle.grammar.proofs.TextLaws.{writing-in, writing-many, writing-few}
+use Rattle.grammar.proofs.TextLaws.{writing-in, writing-many, writing-few, text-promise32}
 use Rattle.text.specs.Stacks.{Holds}
 use Rattle.text.specs.Pens.{TableOf}
-use Rattle.text.specs.Answers.{nodesOf, Reads}
-use Rattle.text.specs.declared.Typed.{Typed}
-use Rattle.text.specs.declared.Typed.the-variants.{Nodes, Refused}
+use Rattle.rule.specs.Answers.{countedOf}
+use Rattle.rule.specs.declared.answer.Counted.{Counted}
+use Rattle.rule.specs.declared.answer.Counted.the-variants.{Count, Refused}
+use Rattle.text.specs.Answers.{Tells, Reads}
 
 -- ---- words copied
 
@@ -112,7 +115,7 @@ module _ (text before : List ℕ) where
           let z = counted k in
           refuses 13 0 (asked ∙ writing-few form32 good32 (length before) (opened (formulaOf text)) k (omega arith))
 
-      pub reads-written : n ≤ 32 → n ≤ length before → Reads text before (take n table ++ drop n before) (Nodes n)
+      pub reads-written : n ≤ 32 → n ≤ length before → Reads text before (take n table ++ drop n before) (Count n)
       unfolding form32
       reads-written h l =
           let k = few h in
@@ -123,3 +126,31 @@ module _ (text before : List ℕ) where
             answer = ap passed (w .count) ∙ sym (ap countOf e);
             output = ap₂ (λ ws m. ws ++ drop m before) (w .words) (w .count) ∙ sym (ap (λ a. outputOf a before) e);
           }
+
+-- ---- what it tells
+
+module _ (text before after : List ℕ) (r : Counted) (x : Reads text before after r) where
+  abbrev given : Answer (List ℕ)
+  given = texting form32 (length before) text
+
+  refused-out : (a : Answer (List ℕ)) (q i : ℕ) → countOf a ≡ refused q i → a ≡ refused q i
+  refused-out (passed ws) q i e = let z : _≡_ {A = ℕ} 0 1 = cc in absurd (omega arith)
+  refused-out (refused p j) q i e = cc
+
+  passed-out : (a : Answer (List ℕ)) (n : ℕ) → countOf a ≡ passed n → (ws : List ℕ) × (a ≡ passed ws) × (n ≡ length ws)
+  passed-out (passed ws) n e = (ws, refl, cc)
+  passed-out (refused p j) n e = let z : _≡_ {A = ℕ} 0 1 = cc in absurd (omega arith)
+
+  no : (q i : ℕ) → countedOf r ≡ refused q i → given ≡ refused q i
+  no q i e = refused-out given q i (sym (x .answer) ∙ e)
+
+  pub reads-tell : Tells text (countedOf r) after
+  reads-tell = record {
+    table = λ n e.
+        let (ws, g, l) = passed-out given n (sym (x .answer) ∙ e) in
+        let (φ, spelled, t, few) = text-promise32 .table text (length before) ws g in
+        let o = x .output ∙ ap (λ a. outputOf a before) g in
+        (φ, spelled, subst (TableFor form32 φ) (sym (ap₂ take l o ∙ take-append-seam ws _)) t);
+    stuck = λ i e. text-promise32 .stuck text (length before) i (no 16 i e);
+    out-of-range = λ i e. text-promise32 .out-of-range text (length before) i (no 17 i e);
+  }

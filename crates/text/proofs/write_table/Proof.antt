@@ -1,7 +1,7 @@
 -- `text::write_table` meets its contract. Assumes nothing.
 use mathlib.Core.Path.{sym, subst}
 use borrow.Author.Needs.{needs}
-use Rattle.text.specs.declared.Typed.the-variants.{Nodes}
+use Rattle.rule.specs.declared.answer.Counted.the-variants.{Count}
 use Rattle.text.specs.Answers.{Reads}
 use Rattle.text.proofs.AnswerLaws.{table-long, reads-many, reads-short, reads-written}
 use Rattle.text.proofs.write_table.Statement.{statement}
@@ -23,7 +23,7 @@ same-length : tie.Need-same-length
 same-length c = search needs
 
 returns-3 : tie.Need-returns-3
-returns-3 c = subst (λ o. Reads (c .before .before .before .before .before .before .before .before .before .before .before .args .text .now) (c .before .before .before .before .before .before .before .before .before .before .before .args .out .now) o (Nodes (c .before .before .before .before .before .before .before .write-nodes .result))) (sym (c .before .before .copy-words .ensures)) (reads-written (c .before .before .before .before .before .before .before .before .before .before .before .args .text .now) (c .before .before .before .before .before .before .before .before .before .before .before .args .out .now) (c .before .before .before .before .before .before .before .before .before .before .before .pre .0) (c .before .before .before .before .before .before .before .before .before .before .before .pre .1) _ _ (c .before .before .before .before .before .before .before .write-nodes .ensures) (c .before .before .before .before .before .before .if1 .left) (c .before .before .before .before .before .if2 .left))
+returns-3 c = subst (λ o. Reads (c .before .before .before .before .before .before .before .before .before .before .before .args .text .now) (c .before .before .before .before .before .before .before .before .before .before .before .args .out .now) o (Count (c .before .before .before .before .before .before .before .write-nodes .result))) (sym (c .before .before .copy-words .ensures)) (reads-written (c .before .before .before .before .before .before .before .before .before .before .before .args .text .now) (c .before .before .before .before .before .before .before .before .before .before .before .args .out .now) (c .before .before .before .before .before .before .before .before .before .before .before .pre .0) (c .before .before .before .before .before .before .before .before .before .before .before .pre .1) _ _ (c .before .before .before .before .before .before .before .write-nodes .ensures) (c .before .before .before .before .before .before .if1 .left) (c .before .before .before .before .before .if2 .left))
 
 pub write-table-spec : {M : Type 1} → statement M
 write-table-spec =

@@ -2,7 +2,7 @@
 use mathlib.Core.Path.{sym, ap, _∙_}
 use native.Mathlib.Omega.{arith}
 use borrow.Author.Needs.{needs}
-use Rattle.weaver.specs.Answers.{wovenOf}
+use Rattle.rule.specs.Answers.{countedOf}
 use Rattle.render.proofs.ListingLaws.{woven-short, refused-text, lines-text, at-start}
 use Rattle.render.proofs.listing.list_woven.Statement.{statement}
 use Rattle.render.proofs.listing.list_woven.Tie as tie
@@ -30,7 +30,7 @@ put-lines-requires c κs =
     let told = c .before .before .before .woven2 .given in
     let weave = c .before .before .before .before .before .before .weave in
     let args = c .before .before .before .before .before .before .before .before .before .before .args in
-    let answer = ap wovenOf (sym (told .1)) ∙ weave .ensures .0 in
+    let answer = ap countedOf (sym (told .1)) ∙ weave .ensures .0 in
     let few = woven-short (args .rule .now) (args .bare .now) _ (omega arith) (told .0 .0) answer in
     let kept = weave .kept .1 .1 .0 in
     (few, omega arith, search needs)
@@ -40,7 +40,7 @@ returns c =
     let told = c .before .before .before .woven .given in
     let weave = c .before .before .before .before .before .before .weave in
     let args = c .before .before .before .before .before .before .before .before .before .before .args in
-    let answer = ap wovenOf (sym (told .1)) ∙ weave .ensures .0 in
+    let answer = ap countedOf (sym (told .1)) ∙ weave .ensures .0 in
     let text = refused-text (args .rule .now) (args .bare .now) _ (omega arith) (told .0 .0) (told .0 .1 .0) (args .rule .now) answer in
     at-start _ _ _ _ _ text (c .put-refused .ensures (args .rule .now))
 
@@ -49,7 +49,7 @@ returns-2 c =
     let told = c .before .before .before .before .woven2 .given in
     let weave = c .before .before .before .before .before .before .before .weave in
     let args = c .before .before .before .before .before .before .before .before .before .before .before .args in
-    let answer = ap wovenOf (sym (told .1)) ∙ weave .ensures .0 in
+    let answer = ap countedOf (sym (told .1)) ∙ weave .ensures .0 in
     let text = lines-text (args .rule .now) (args .bare .now) _ (omega arith) (told .0 .0) answer _ (weave .ensures .1 .0) in
     at-start _ _ _ _ _ text (c .put-lines .ensures)
 

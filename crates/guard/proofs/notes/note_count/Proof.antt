@@ -1,14 +1,14 @@
--- `guard::notes::note_woven` meets its contract. Assumes nothing.
+-- `guard::notes::note_count` meets its contract. Assumes nothing.
 use mathlib.Core.Path.{sym, ap, _∙_}
 use mathlib.Core.List.{[], _∷_, _++_}
 use lib.ListN.{drop}
-use Rattle.weaver.specs.declared.Woven.{Woven}
-use Rattle.weaver.specs.Answers.{wovenOf}
-use Rattle.guard.specs.Numbers.{numberOf, wovenWords}
+use Rattle.rule.specs.declared.answer.Counted.{Counted}
+use Rattle.rule.specs.Answers.{countedOf}
+use Rattle.guard.specs.Numbers.{numberOf, countWords}
 use Rattle.guard.proofs.NoteLaws.{at-start}
 use borrow.Author.Needs.{needs}
-use Rattle.guard.proofs.notes.note_woven.Statement.{statement}
-use Rattle.guard.proofs.notes.note_woven.Tie as tie
+use Rattle.guard.proofs.notes.note_count.Statement.{statement}
+use Rattle.guard.proofs.notes.note_count.Tie as tie
 
 enum-known-w : tie.Need-enum-known-w
 enum-known-w c = search needs
@@ -35,8 +35,8 @@ returns : tie.Need-returns
 returns c =
     let l = c .before .before .before .args .numbers .now in
     let e = sym (c .before .w .given .1) in (
-      ap (λ (w : Woven). numberOf (wovenOf w)) e,
-      at-start (c .before .w .given .0 .1 .0 ∷ 0 ∷ []) l (c .before .before .before .pre) ∙ ap (λ (w : Woven). wovenWords (wovenOf w) ++ drop 2 l) e,
+      ap (λ (w : Counted). numberOf (countedOf w)) e,
+      at-start (c .before .w .given .0 .1 .0 ∷ 0 ∷ []) l (c .before .before .before .pre) ∙ ap (λ (w : Counted). countWords (countedOf w) ++ drop 2 l) e,
     )
 
 same-length-2 : tie.Need-same-length-2
@@ -46,12 +46,12 @@ returns-2 : tie.Need-returns-2
 returns-2 c =
     let l = c .before .before .before .args .numbers .now in
     let e = sym (c .before .w2 .given .1) in (
-      ap (λ (w : Woven). numberOf (wovenOf w)) e,
-      at-start (0 ∷ c .before .w2 .given .0 .0 ∷ []) l (c .before .before .before .pre) ∙ ap (λ (w : Woven). wovenWords (wovenOf w) ++ drop 2 l) e,
+      ap (λ (w : Counted). numberOf (countedOf w)) e,
+      at-start (0 ∷ c .before .w2 .given .0 .0 ∷ []) l (c .before .before .before .pre) ∙ ap (λ (w : Counted). countWords (countedOf w) ++ drop 2 l) e,
     )
 
-pub note-woven-spec : {M : Type 1} → statement M
-note-woven-spec =
+pub note-count-spec : {M : Type 1} → statement M
+note-count-spec =
     tie.close
     (tie.spec
     enum-known-w
