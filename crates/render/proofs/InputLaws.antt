@@ -13,8 +13,8 @@ use borrow.Author.Tests.{le-leb, lt-leb}
 use Rattle.words.specs.Words.{wordAt}
 use Rattle.spec.proofs.BoolLaws.{le-or-lt}
 use Rattle.render.specs.Input.{wordsFrom, countIn, counted}
-use Rattle.render.specs.Written.{Added}
-use Rattle.render.proofs.AddedLaws.{added-as, added-none, added-byte}
+use Rattle.print.specs.Written.{Added}
+use Rattle.print.proofs.AddedLaws.{added-as, added-none, added-byte}
 
 module _ (most : ℕ) (bytes : List ℕ) (at n : ℕ) (e : n ≡ wordAt bytes at) where
   pub count-over : most < n → 0 ≡ countIn most bytes at

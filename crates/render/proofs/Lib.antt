@@ -1,6 +1,4 @@
--- Writing at a place of a lent output.
-pub mod AddedLaws
--- Decimal numbers, lines, and how long they are.
+-- Lines, and how long they are.
 pub mod TextLaws
 -- Counts and words in the bytes of an input.
 pub mod InputLaws

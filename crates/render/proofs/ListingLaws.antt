@@ -22,8 +22,9 @@ use Rattle.spec.specs.Weaver.{woven, wovenLines, question12, question13, checkW
 use Rattle.spec.proofs.QuestionLaws.{then-passed, then-refused, both-passed, once-in, once-out}
 use Rattle.spec.proofs.RuleLaws.{rule-out}
 use Rattle.spec.proofs.WeaverLaws.{length-woven}
-use Rattle.render.specs.Text.{newline, number, lineText, linesText, linesWord, answerText}
-use Rattle.render.specs.Written.{Added}
+use Rattle.print.specs.Decimal.{newline, number, refusedText}
+use Rattle.render.specs.Text.{lineText, linesText, linesWord, answerText}
+use Rattle.print.specs.Written.{Added}
 use Rattle.render.specs.Input.{counted}
 use Rattle.render.specs.Listing.{wovenText, listingOf}
 use Rattle.render.proofs.InputLaws.{length-counted}
@@ -65,10 +66,9 @@ module _ (rule bare out : List ℕ) (roomy : 8192 ≤ length out) where
       by (refused q i) e =
           then-refused checked (question13 form32 rule bare out then passed lines) q i e ∙ sym (then-refused checked (passed lines) q i e)
 
-  pub refused-text : (q i : ℕ) (words : List ℕ) → refused q i ≡ weaving form32 rule bare out
-      → answerText words (refused q i) ≡ wovenText rule bare
+  pub refused-text : (q i : ℕ) → refused q i ≡ weaving form32 rule bare out → refusedText q i ≡ wovenText rule bare
   unfolding wovenText answerText
-  refused-text q i words e = ap (λ a. answerText (woven form32 rule bare) a) (e ∙ weaving-roomy)
+  refused-text q i e = ap (λ a. answerText (woven form32 rule bare) a) (e ∙ weaving-roomy)
 
   module _ (n : ℕ) (e : passed n ≡ weaving form32 rule bare out) where
     both : (checked ≡ passed tt) × (_≡_ {A = Answer ℕ} (passed lines) (passed n))

@@ -1,4 +1,3 @@
 pub mod Input
 pub mod Text
-pub mod Written
 pub mod Listing

@@ -1,35 +1,11 @@
 -- The text of a listing, as the bytes of its letters (ASCII).
-use mathlib.Core.Bool.{cond}
 use mathlib.Core.List.{List, [], _∷_, _++_}
-use Prim.Native.Nat.{ℕ, zero, suc, _+_, _*_, _/_, _%_}
+use Prim.Native.Nat.{ℕ, zero, suc, _*_}
 use lib.ListN.{getD}
-use lib.Dec.{ltb}
 use Rattle.spec.specs.Questions.{Answer, passed, refused}
 use Rattle.spec.specs.Script.{fieldsOf}
 use Rattle.spec.specs.Check.{lineLength}
-
--- the digit of a number below ten
-abbrev pub digit : ℕ → ℕ
-digit n = 48 + n
-
--- A number in decimal: a number below ten is its digit; otherwise the last digit stands after the digits of the tenth. At most `most` digits
--- are written, and n + 1 are enough: `proofs/TextLaws.antt` has the equations that a reader expects, `decimal-small` and `decimal-more`.
-unfoldable pub digitsFor : (most n : ℕ) → List ℕ
-digitsFor zero n = []
-digitsFor (suc most) n = cond (ltb n 10) (digit n ∷ []) (digitsFor most (n / 10) ++ (digit (n % 10) ∷ []))
-
-unfoldable pub decimal : ℕ → List ℕ
-decimal n = digitsFor (suc n) n
-
-abbrev pub space : ℕ
-space = 32
-
-abbrev pub newline : ℕ
-newline = 10
-
--- a number and what ends it
-abbrev pub number : (n end : ℕ) → List ℕ
-number n end = decimal n ++ (end ∷ [])
+use Rattle.print.specs.Decimal.{space, newline, number, refusedText}
 
 -- line, opcode, r, c, target, in decimal; w is the line's first word
 unfoldable pub lineText : (l w : ℕ) → List ℕ
@@ -46,11 +22,7 @@ linesText words (suc n) = linesText words n ++ lineText n (getD words (lineLengt
 abbrev pub linesWord : List ℕ
 linesWord = 108 ∷ 105 ∷ 110 ∷ 101 ∷ 115 ∷ 32 ∷ []
 
--- "refused "
-abbrev pub refusedWord : List ℕ
-refusedWord = 114 ∷ 101 ∷ 102 ∷ 117 ∷ 115 ∷ 101 ∷ 100 ∷ 32 ∷ []
-
 -- a header with the count, then the lines; for a refused input only "refused", number, place
 unfoldable pub answerText : (words : List ℕ) → Answer ℕ → List ℕ
 answerText words (passed n) = linesWord ++ number n newline ++ linesText words n
-answerText words (refused q i) = refusedWord ++ number q space ++ number i newline
+answerText words (refused q i) = refusedText q i

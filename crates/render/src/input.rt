@@ -4,7 +4,7 @@ ghost use mathlib.Core.Path.{_≡_};
 ghost use Prim.Native.Nat.{_≤_};
 ghost use lib.ListN.{length};
 ghost use Rattle.render.specs.Input.{wordsFrom, countIn, counted};
-ghost use Rattle.render.specs.Written.{Added};
+ghost use Rattle.print.specs.Written.{Added};
 
 // How many words the count at word `at` counts.
 fn count_in(bytes: &[u8], at: usize, most: usize) -> usize

@@ -1,7 +1,7 @@
 // The listing of an input.
 use crate::input::load_counted;
 use crate::text::put_lines;
-use crate::text::put_refused;
+use print::add_refused;
 use rule::answer::Counted;
 use weaver::weave;
 ghost use mathlib.Core.Path.{_≡_};
@@ -17,7 +17,7 @@ fn list_woven(rule: &[u32], bare: &[u32], out: &mut [u8; 32768]) -> usize
     let mut words = [0u32; 8192];
     let woven = weave(rule, bare, &mut words);
     match woven {
-        Counted::Refused { question, place } => put_refused(question, place, out),
+        Counted::Refused { question, place } => add_refused(question, place, 0, out),
         Counted::Count(n) => put_lines(&words, n, out),
     }
 }

@@ -1,24 +1,11 @@
 // The text of a listing, written into a lent output.
-use crate::number::add_number;
-ghost use mathlib.Core.List.{List};
-ghost use Prim.Native.Nat.{ℕ, _+_, _*_, _≤_, _<_};
+use print::add_bytes;
+use print::add_number;
+ghost use Prim.Native.Nat.{_+_, _*_, _≤_, _<_};
 ghost use lib.ListN.{length};
-ghost use Rattle.spec.specs.Questions.{passed, refused};
+ghost use Rattle.spec.specs.Questions.{passed};
 ghost use Rattle.render.specs.Text.{lineText, linesText, answerText};
-ghost use Rattle.render.specs.Written.{Added};
-
-// These bytes at `at`.
-fn add_bytes(text: &[u8], at: usize, out: &mut [u8]) -> usize
-    requires { ⌜ at + length (now text) ≤ length (now out) ⌝ }
-    ensures { λ r. ⌜ Added (now (text .entry)) at r (now (out .entry)) (now (out .exit)) ⌝ }
-{
-    let mut i: usize = 0;
-    while i < text.len() {
-        out[at + i] = text[i];
-        i += 1;
-    }
-    at + i
-}
+ghost use Rattle.print.specs.Written.{Added};
 
 // Line l, whose first word this is: line, opcode, r, c, target.
 fn add_line(l: usize, word: u32, at: usize, out: &mut [u8]) -> usize
@@ -54,14 +41,4 @@ pub(crate) fn put_lines(words: &[u32], n: usize, out: &mut [u8]) -> usize
     let count_at = add_bytes(b"lines ", 0, out);
     let lines_at = add_number(n, b'\n', count_at, out);
     add_lines(words, n, lines_at, out)
-}
-
-// "refused", number, place.
-pub(crate) fn put_refused(question: u32, place: usize, out: &mut [u8]) -> usize
-    requires { ⌜ 64 ≤ length (now out) ⌝ }
-    ensures { λ r. ⌜ ((words : List ℕ) → Added (answerText words (refused question place)) 0 r (now (out .entry)) (now (out .exit))) ⌝ }
-{
-    let number_at = add_bytes(b"refused ", 0, out);
-    let place_at = add_number(question as usize, b' ', number_at, out);
-    add_number(place, b'\n', place_at, out)
 }

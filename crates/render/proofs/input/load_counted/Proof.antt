@@ -6,7 +6,7 @@ use native.Mathlib.Omega.{arith}
 use lib.ListN.{length}
 use borrow.Author.Needs.{needs}
 use Rattle.render.specs.Input.{wordsFrom, countIn}
-use Rattle.render.proofs.AddedLaws.{added-as}
+use Rattle.print.proofs.AddedLaws.{added-as}
 use Rattle.render.proofs.InputLaws.{count-most}
 use Rattle.render.proofs.input.load_counted.Statement.{statement}
 use Rattle.render.proofs.input.load_counted.Tie as tie

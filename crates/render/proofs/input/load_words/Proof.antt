@@ -6,7 +6,7 @@ use native.Mathlib.Omega.{arith}
 use lib.ListN.{length}
 use borrow.Author.Needs.{needs}
 use Rattle.render.specs.Input.{wordsFrom}
-use Rattle.render.specs.Written.{Added}
+use Rattle.print.specs.Written.{Added}
 use Rattle.render.proofs.InputLaws.{words-start, words-next}
 use Rattle.render.proofs.input.load_words.Statement.{statement}
 use Rattle.render.proofs.input.load_words.Tie as tie

@@ -16,8 +16,8 @@ weave-requires c κs = search needs
 enum-known-woven : tie.Need-enum-known-woven
 enum-known-woven c = search needs
 
-put-refused-requires : tie.Need-put-refused-requires
-put-refused-requires c κs = search needs
+add-refused-requires : tie.Need-add-refused-requires
+add-refused-requires c κs = search needs
 
 enum-known-woven-2 : tie.Need-enum-known-woven-2
 enum-known-woven-2 c = search needs
@@ -41,8 +41,8 @@ returns c =
     let weave = c .before .before .before .before .before .before .weave in
     let args = c .before .before .before .before .before .before .before .before .before .before .args in
     let answer = ap countedOf (sym (told .1)) ∙ weave .ensures .0 in
-    let text = refused-text (args .rule .now) (args .bare .now) _ (omega arith) (told .0 .0) (told .0 .1 .0) (args .rule .now) answer in
-    at-start _ _ _ _ _ text (c .put-refused .ensures (args .rule .now))
+    let text = refused-text (args .rule .now) (args .bare .now) _ (omega arith) (told .0 .0) (told .0 .1 .0) answer in
+    at-start _ _ _ _ _ text (c .add-refused .ensures)
 
 returns-2 : tie.Need-returns-2
 returns-2 c =
@@ -60,7 +60,7 @@ list-woven-spec =
     slice-aggregate-weave
     weave-requires
     enum-known-woven
-    put-refused-requires
+    add-refused-requires
     enum-known-woven-2
     slice-aggregate-put-lines
     put-lines-requires

@@ -1,11 +1,11 @@
--- `render::text::add_line` meets its contract: five numbers, one after another, of at most five digits each (`TextLaws`). Assumes nothing.
+-- `render::text::add_line` meets its contract: five numbers, one after another, of at most five digits each (`DecimalLaws`). Assumes nothing.
 use Prim.Native.Nat.{_/_, _%_}
 use native.Mathlib.Omega.{arith}
 use borrow.Author.Needs.{needs}
 use Rattle.spec.specs.Script.{fieldsOf}
 use Rattle.render.specs.Text.{lineText}
-use Rattle.render.proofs.AddedLaws.{filled-then, filled-room}
-use Rattle.render.proofs.TextLaws.{number-filled, number-room}
+use Rattle.print.proofs.AddedLaws.{filled-then, filled-room}
+use Rattle.print.proofs.DecimalLaws.{number-filled, number-room}
 use Rattle.render.proofs.text.add_line.Statement.{statement}
 use Rattle.render.proofs.text.add_line.Tie as tie
 

@@ -3,8 +3,8 @@ use Prim.Native.Nat.{_*_}
 use native.Mathlib.Omega.{arith}
 use borrow.Author.Needs.{needs}
 use Rattle.render.specs.Text.{answerText}
-use Rattle.render.proofs.AddedLaws.{filled-as, filled-then, filled-room, filled-added}
-use Rattle.render.proofs.TextLaws.{number-filled, number-room}
+use Rattle.print.proofs.AddedLaws.{filled-as, filled-then, filled-room, filled-added}
+use Rattle.print.proofs.DecimalLaws.{number-filled, number-room}
 use Rattle.render.proofs.text.put_lines.Statement.{statement}
 use Rattle.render.proofs.text.put_lines.Tie as tie
 

@@ -1,13 +1,13 @@
--- `render::text::add_bytes` meets its contract. The loop keeps: the first i bytes are written (`AddedLaws`); the measure is what is left of
+-- `print::add_bytes` meets its contract. The loop keeps: the first i bytes are written (`AddedLaws`); the measure is what is left of
 -- the text. Assumes nothing.
 use mathlib.Core.Path.{_≡_}
 use Prim.Native.Nat.{_+_, _-_, _≤_}
 use lib.ListN.{length, take}
 use borrow.Author.Needs.{needs}
-use Rattle.render.specs.Written.{Added}
-use Rattle.render.proofs.AddedLaws.{bytes-start, bytes-next, bytes-end}
-use Rattle.render.proofs.text.add_bytes.Statement.{statement}
-use Rattle.render.proofs.text.add_bytes.Tie as tie
+use Rattle.print.specs.Written.{Added}
+use Rattle.print.proofs.AddedLaws.{bytes-start, bytes-next, bytes-end}
+use Rattle.print.proofs.add_bytes.Statement.{statement}
+use Rattle.print.proofs.add_bytes.Tie as tie
 
 abbrev Inv-loop : tie.InvT-loop
 Inv-loop text at out₀ i₀ out i =

@@ -1,16 +1,16 @@
--- `render::number::add_decimal` meets its contract: by recursion into the tenth, the number itself the measure (`TextLaws`). Assumes nothing.
+-- `print::add_decimal` meets its contract: by recursion into the tenth, the number itself the measure (`DecimalLaws`). Assumes nothing.
 use Prim.Native.Nat.{ℕ, _<_}
 use native.Mathlib.Omega.{arith}
 use borrow.Author.Needs.{needs}
 use borrow.Fn.Kinds.{In}
 use borrow.Fn.PlainCycle.{Measures, is, falls, and}
-use Rattle.render.proofs.TextLaws.{decimal-some, one-digit, tenth, last-room, last-digit}
-use Rattle.render.proofs.number.add_decimal.Reads as add-decimal
-use Rattle.render.proofs.number.add_decimal.Kinds as add-decimal-kinds
-use Rattle.render.proofs.number.+add_decimal.Lts-add_decimal as add-decimal-lts
-use Rattle.render.proofs.number.digit_of.Reads as digit-of-reads
-use Rattle.render.proofs.number.+add_decimal.{statement}
-use Rattle.render.proofs.number.+add_decimal.Tie.{close}
+use Rattle.print.proofs.DecimalLaws.{decimal-some, one-digit, tenth, last-room, last-digit}
+use Rattle.print.proofs.add_decimal.Reads as add-decimal
+use Rattle.print.proofs.add_decimal.Kinds as add-decimal-kinds
+use Rattle.print.proofs.+add_decimal.Lts-add_decimal as add-decimal-lts
+use Rattle.print.proofs.digit_of.Reads as digit-of-reads
+use Rattle.print.proofs.+add_decimal.{statement}
+use Rattle.print.proofs.+add_decimal.Tie.{close}
 
 abbrev μ-add-decimal : Measures 1 add-decimal-kinds.ps ℕ
 μ-add-decimal κs a = a .0

@@ -12,7 +12,7 @@ use Prim.Native.Nat.{ℕ, suc, _+_, _≤_, _<_}
 use native.Mathlib.Omega.{arith}
 use lib.ListN.{length, getD, take, drop, set, length-append, length-drop, take-append-drop}
 use lib.Seq.{length-take-le, drop-drop, drop-append-add, take-at, take-all, take-suc, set-split}
-use Rattle.render.specs.Written.{Added}
+use Rattle.print.specs.Written.{Added}
 
 pub added-as : (a b : List ℕ) (at end : ℕ) (o o1 : List ℕ) → a ≡ b → Added a at end o o1 → Added b at end o o1
 added-as a b at end o o1 e x = subst (λ t. Added t at end o o1) e x

@@ -1,11 +1,11 @@
--- `render::text::put_refused` meets its contract: the word, the number and the place, one after another (`AddedLaws`). Assumes nothing.
+-- `print::add_refused` meets its contract: the word, the number and the place, one after another (`AddedLaws`). Assumes nothing.
 use native.Mathlib.Omega.{arith}
 use borrow.Author.Needs.{needs}
-use Rattle.render.specs.Text.{answerText}
-use Rattle.render.proofs.AddedLaws.{filled-as, filled-then, filled-room, filled-added}
-use Rattle.render.proofs.TextLaws.{number-filled, number-room}
-use Rattle.render.proofs.text.put_refused.Statement.{statement}
-use Rattle.render.proofs.text.put_refused.Tie as tie
+use Rattle.print.specs.Decimal.{refusedText}
+use Rattle.print.proofs.AddedLaws.{filled-as, filled-then, filled-room, filled-added}
+use Rattle.print.proofs.DecimalLaws.{number-filled, number-room}
+use Rattle.print.proofs.add_refused.Statement.{statement}
+use Rattle.print.proofs.add_refused.Tie as tie
 
 slice-aggregate-add-bytes : tie.Need-slice-aggregate-add-bytes
 slice-aggregate-add-bytes c = search needs
@@ -37,7 +37,7 @@ same-length : tie.Need-same-length
 same-length c = search needs
 
 returns : tie.Need-returns
-unfolding answerText
+unfolding refusedText
 returns c =
     let place = c .before .before in
     let question = place .before .before .before .before in
@@ -46,10 +46,10 @@ returns c =
     let room = start .pre in
     let f1 = filled-as 8 (omega arith) (word .add-bytes .ensures) in
     let f2 = filled-then (omega arith) f1 (number-filled 19 (start .args .question) 32 (omega arith) (question .add-number .ensures)) in
-    λ words. filled-added (omega arith) f2 (place .add-number2 .ensures)
+    filled-added (omega arith) f2 (place .add-number2 .ensures)
 
-pub put-refused-spec : {M : Type 1} → statement M
-put-refused-spec =
+pub add-refused-spec : {M : Type 1} → statement M
+add-refused-spec =
     tie.close
     (tie.spec
     slice-aggregate-add-bytes

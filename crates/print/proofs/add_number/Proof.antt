@@ -1,11 +1,11 @@
--- `render::number::add_number` meets its contract: the digits, and a byte after them (`TextLaws`). Assumes nothing.
+-- `print::add_number` meets its contract: the digits, and a byte after them (`DecimalLaws`). Assumes nothing.
 use borrow.Author.Needs.{needs}
 use native.Mathlib.Omega.{arith}
-use Rattle.render.specs.Text.{decimal}
-use Rattle.render.proofs.AddedLaws.{added-byte}
-use Rattle.render.proofs.TextLaws.{digits-room, end-room}
-use Rattle.render.proofs.number.add_number.Statement.{statement}
-use Rattle.render.proofs.number.add_number.Tie as tie
+use Rattle.print.specs.Decimal.{decimal}
+use Rattle.print.proofs.AddedLaws.{added-byte}
+use Rattle.print.proofs.DecimalLaws.{digits-room, end-room}
+use Rattle.print.proofs.add_number.Statement.{statement}
+use Rattle.print.proofs.add_number.Tie as tie
 
 add-decimal-requires : tie.Need-add-decimal-requires
 add-decimal-requires c κs =
