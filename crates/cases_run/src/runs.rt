@@ -9,9 +9,9 @@ use crate::printing::say;
 use checker::check_script;
 use machine::Machine;
 use machine::answer::Stop;
+use rule::answer::Counted;
 use rule::node::past_at;
 use sets::has;
-use rule::answer::Counted;
 use words::word_at;
 ghost use Prim.Native.Nat.{_≤_};
 

@@ -125,7 +125,7 @@ module _ (form : Form) (good : GoodForm form) where
         | inr (a, b) ↦ elim (then-no (askOnce 13 (leb (size φ) lent)) _ q i b) [
           | inl c ↦ inr (once-number 13 q i _ c)
           | inr (c, d) ↦ let z : _≡_ {A = ℕ} 0 1 = cc in absurd (omega arith)
-          ]
+        ]
       ]
 
   stuck-out : (bs : List ℕ) (lent i : ℕ) → texting form lent bs ≡ refused 16 i → StuckAt bs i
@@ -136,7 +136,7 @@ module _ (form : Form) (good : GoodForm form) where
         | inr (a, b) ↦ elim (then-no (question17 bs) _ 16 i b) [
           | inl c ↦ let z = number17 bs 16 i c in absurd (omega arith)
           | inr (c, d) ↦ elim (writing-number lent (opened (formulaOf bs)) 16 i d) [ inl z ↦ absurd (omega arith) | inr z ↦ absurd (omega arith) ]
-          ]
+        ]
       ]
 
   range-out : (bs : List ℕ) (lent i : ℕ) → texting form lent bs ≡ refused 17 i → OutOfRangeAt false bs i
@@ -147,7 +147,7 @@ module _ (form : Form) (good : GoodForm form) where
         | inr (a, b) ↦ elim (then-no (question17 bs) _ 17 i b) [
           | inl c ↦ let (φ, x) = passes-text bs a in range-at bs φ x i c
           | inr (c, d) ↦ elim (writing-number lent (opened (formulaOf bs)) 17 i d) [ inl z ↦ absurd (omega arith) | inr z ↦ absurd (omega arith) ]
-          ]
+        ]
       ]
 
   table-out : (bs : List ℕ) (lent : ℕ) (ws : List ℕ) → texting form lent bs ≡ passed ws

@@ -1,10 +1,10 @@
 // The guard for C and Rust to call: every entry point, on numbers and slices. include/guard.h says the same to a reader of C.
 // Each function hands back 0, or the number of the question that refused, or 99 where the lent words are fewer than it needs, and
 // writes its other numbers into the first of the lent words; later words stay. With 99 nothing is written anywhere.
+use crate::notes::note_count;
 use crate::notes::note_place;
 use crate::notes::note_report;
 use crate::notes::note_verdict;
-use crate::notes::note_count;
 use crate::states::put_machine;
 use crate::states::read_machine;
 use crate::states::registers_fit;
