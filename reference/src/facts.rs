@@ -63,6 +63,14 @@ pub enum Fault {
     SinceByLeft,
     /// A since wants left at the state where right starts it.
     SinceWantsLeft,
+    /// Since groups to the right in a text.
+    SinceToTheRight,
+    /// a or b is opened as a implies b.
+    OrWithoutNot,
+    /// 17 is put to each number as it is read, before 16 is put to the rest of the text.
+    RangeFirst,
+    /// Two words of a text may touch.
+    WordsTouch,
 }
 
 thread_local! {

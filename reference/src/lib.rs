@@ -2,6 +2,7 @@
 //! code: clarity before speed. Where the two differ, one of them has misread a sentence.
 pub mod facts;
 pub mod generate;
+pub mod generate_text;
 pub mod judge;
 pub mod listing;
 pub mod machine;
@@ -9,6 +10,7 @@ pub mod plain;
 pub mod random;
 pub mod rule;
 pub mod script;
+pub mod text;
 pub mod weave;
 
 /// A "no": the question's number and the place.
