@@ -131,6 +131,14 @@ pub fn put(request: &Request, met: &mut Met) -> Result<(), String> {
             }
             Ok(())
         }
+        Request::Text { text, out, numbers } => {
+            let mut n = Lent::new(numbers, 7);
+            let mut o = Lent::new(out, 7);
+            let ((p, r), (po, ro)) = (n.both(), o.both());
+            count("text", same(proved::text(text, po, p), faced::text(text, ro, r))?);
+            n.check("numbers")?;
+            o.check("out")
+        }
     }
 }
 

@@ -3,6 +3,7 @@ use reference::judge::judge as judge_history;
 use reference::machine::{self, fresh as fresh_machine, nodes_within, step_stored, Machine, Stop};
 use reference::rule::check_rule;
 use reference::script::{check_bare, check_script};
+use reference::text::read_text;
 use reference::weave::weave as weave_script;
 use reference::No;
 
@@ -45,13 +46,14 @@ pub fn script(rule: &[u32], script: &[u32], numbers: &mut [u64]) -> u32 {
     checked(numbers, || check_script(rule, script))
 }
 
-pub fn weave(rule: &[u32], bare: &[u32], out: &mut [u32], numbers: &mut [u64]) -> u32 {
+/// How many were written, of lines or of nodes.
+fn written(numbers: &mut [u64], answer: impl FnOnce() -> Result<usize, No>) -> u32 {
     if numbers.len() < 2 {
         return TOO_SHORT;
     }
-    match weave_script(rule, bare, out) {
-        Ok(lines) => {
-            note(numbers, [0, lines as u64]);
+    match answer() {
+        Ok(count) => {
+            note(numbers, [0, count as u64]);
             0
         }
         Err(no) => {
@@ -59,6 +61,14 @@ pub fn weave(rule: &[u32], bare: &[u32], out: &mut [u32], numbers: &mut [u64]) -
             no.number
         }
     }
+}
+
+pub fn weave(rule: &[u32], bare: &[u32], out: &mut [u32], numbers: &mut [u64]) -> u32 {
+    written(numbers, || weave_script(rule, bare, out))
+}
+
+pub fn text(text: &[u8], out: &mut [u32], numbers: &mut [u64]) -> u32 {
+    written(numbers, || read_text(text, out))
 }
 
 pub fn judge(rule: &[u32], history: &[u16], numbers: &mut [u64]) -> u32 {

@@ -3,3 +3,4 @@ pub mod compare;
 pub mod faced;
 pub mod proved;
 pub mod requests;
+pub mod texts;

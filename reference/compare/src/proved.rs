@@ -62,6 +62,14 @@ pub mod face {
             state: *mut u64,
             state_length: usize,
         ) -> u32;
+        pub fn guard_text(
+            text: *const u8,
+            text_length: usize,
+            out: *mut u32,
+            out_length: usize,
+            numbers: *mut u64,
+            numbers_length: usize,
+        ) -> u32;
     }
 }
 
@@ -136,4 +144,8 @@ pub fn step(rule: &[u32], script: &[u32], inputs: &[u16], history: &mut [u16], s
             state.len(),
         )
     }
+}
+
+pub fn text(text: &[u8], out: &mut [u32], numbers: &mut [u64]) -> u32 {
+    unsafe { face::guard_text(text.as_ptr(), text.len(), out.as_mut_ptr(), out.len(), numbers.as_mut_ptr(), numbers.len()) }
 }

@@ -1,11 +1,13 @@
 //! Random requests: what passes every question, what is spoiled bit by bit, several faults at once, lengths one short and one
 //! long.
+use crate::texts;
 use reference::facts::{all_facts, close, first_facts, pass, Facts, T};
 use reference::generate;
 use reference::judge::{first_priors, next_priors, values_now};
 use reference::random::Rng;
 use reference::rule::{check_rule, Rule};
 use reference::script::{encode_lines, instruction_words, Line};
+use reference::text::read_text;
 use reference::weave::weave_lines;
 
 /// A call of one function. The lent slices are as long as these and hold these numbers before the call.
@@ -20,6 +22,7 @@ pub enum Request {
     Fresh { rule: Vec<u32>, state: Vec<u64> },
     /// So many steps, one after the other.
     Steps { rule: Vec<u32>, script: Vec<u32>, inputs: Vec<u16>, history: Vec<u16>, state: Vec<u64>, count: usize },
+    Text { text: Vec<u8>, out: Vec<u32>, numbers: Vec<u64> },
 }
 
 /// Lent words: as many as the function needs, or one short, one long, none, some more.
@@ -353,11 +356,32 @@ fn state(g: &mut Rng, rule: &Rule, lines: usize) -> Vec<u64> {
     words
 }
 
-/// Request number `n` of a seed: it depends on nothing else, so that a difference can be looked at again by its number.
+/// A text, and as many words as its nodes need, or fewer or more.
+fn text(g: &mut Rng) -> Request {
+    let text = texts::text(g);
+    let needed = read_text(&text, &mut [0; 32]).unwrap_or(0);
+    let length = match g.below(12) {
+        0 | 1 => needed.saturating_sub(1),
+        2 => needed + 1,
+        3 => 0,
+        4 => g.below(needed + 1),
+        5 => g.below(40),
+        6 | 7 => 32,
+        _ => needed,
+    };
+    let out = (0..length).map(|_| g.next() as u32).collect();
+    Request::Text { text, out, numbers: numbers(g, 2) }
+}
+
+/// Request number `n` of a seed: it depends on nothing else, so that a difference can be looked at again by its number. Every eighth
+/// is a text, whatever the seed: the others have kept the numbers that they had before there were texts.
 pub fn request(seed: u64, n: u64) -> Request {
     let mut g = Rng(seed ^ n.wrapping_mul(0xd134_2543_de82_ef95));
     let g = &mut g;
     g.next();
+    if n % 8 == 7 {
+        return text(g);
+    }
     match g.below(20) {
         0 | 1 => {
             let rule = rule(g, 70).1;

@@ -31,10 +31,12 @@ fn tell(met: &Met) {
 fn proved_and_reference_agree() {
     let met = compare(number("GUARD_SEED", SEED), number("GUARD_REQUESTS", REQUESTS)).unwrap_or_else(|e| panic!("{e}"));
     tell(&met);
-    for refusal in 0..=15 {
+    for refusal in (0..=18).chain([98, 99]) {
         assert!(met.with_result(refusal) > 0, "no call handed back {refusal}");
     }
-    assert!(met.with_result(98) > 0 && met.with_result(99) > 0);
+    for refusal in [0, 13, 16, 17, 18, 99] {
+        assert!(met.results.contains_key(&("text", refusal)), "no text was answered with {refusal}");
+    }
     for stop in 0..=4 {
         assert!(met.stops.contains_key(&stop), "no run stopped as {stop}");
     }
@@ -44,7 +46,18 @@ fn proved_and_reference_agree() {
 /// the comparison.
 #[test]
 fn planted_faults_are_noticed() {
-    for fault in [Fault::WorkKept, Fault::AnyOrder, Fault::RaisedRound, Fault::LoweredRound, Fault::SinceByLeft, Fault::SinceWantsLeft] {
+    for fault in [
+        Fault::WorkKept,
+        Fault::AnyOrder,
+        Fault::RaisedRound,
+        Fault::LoweredRound,
+        Fault::SinceByLeft,
+        Fault::SinceWantsLeft,
+        Fault::SinceToTheRight,
+        Fault::OrWithoutNot,
+        Fault::RangeFirst,
+        Fault::WordsTouch,
+    ] {
         let mut met = Met::default();
         let noticed = (0..REQUESTS).find(|&n| {
             let asked = request(SEED, n);
@@ -191,6 +204,7 @@ fn lent_lengths() {
             for (history_length, out_length) in [(0, 0), (15, 127), (16, 128), (47, 129), (48, 200)] {
                 let mut p = (numbers.clone(), vec![5; history_length], vec![6; out_length]);
                 let mut r = p.clone();
+                let (text, short) = (b"r1=1 since r2=1", b"r1=1 since");
                 let asked = [
                     (proved::rule(&rule, &mut p.0), faced::rule(&rule, &mut r.0)),
                     (proved::bare(&rule, script, &mut p.0), faced::bare(&rule, script, &mut r.0)),
@@ -206,6 +220,8 @@ fn lent_lengths() {
                         proved::step(&rule, script, &inputs, &mut p.1, &mut p.0),
                         faced::step(&rule, script, &inputs, &mut r.1, &mut r.0),
                     ),
+                    (proved::text(text, &mut p.2, &mut p.0), faced::text(text, &mut r.2, &mut r.0)),
+                    (proved::text(short, &mut p.2, &mut p.0), faced::text(short, &mut r.2, &mut r.0)),
                 ];
                 for (proved, reference) in asked {
                     assert_eq!(proved, reference);

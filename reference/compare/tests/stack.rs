@@ -1,5 +1,5 @@
-//! How much stack each function of `include/guard.h` takes: it is called on a painted stack, with rules of the deepest nesting, full
-//! scripts and random requests, and what was painted over is counted. The header says these numbers; they are not proved.
+//! How much stack each function of `include/guard.h` takes: it is called on a painted stack, with rules and texts of the deepest nesting,
+//! full scripts and random requests, and what was painted over is counted. The header says these numbers; they are not proved.
 use compare::proved::{self, face};
 use compare::requests::{request, Request};
 use reference::rule::check_rule;
@@ -125,6 +125,12 @@ fn put(stack: &mut Stack, most: &mut Most, request: &Request) {
                 note("STEP", taken(stack, function, |f| unsafe { f(r, nodes, s, words, i, count, h, space, m, length) }));
             }
         }
+        Request::Text { text, mut out, mut numbers } => {
+            let (o, space) = (out.as_mut_ptr(), out.len());
+            let (n, length) = (numbers.as_mut_ptr(), numbers.len());
+            let function = face::guard_text as unsafe extern "C" fn(_, _, _, _, _, _) -> _;
+            note("TEXT", taken(stack, function, |f| unsafe { f(text.as_ptr(), text.len(), o, space, n, length) }));
+        }
     }
 }
 
@@ -178,6 +184,23 @@ fn full_requests(rule: Vec<u32>) -> Vec<Request> {
     ]
 }
 
+/// Texts with as many words waiting for their operands as a table has room for, in ten thousand brackets or one each, and a number of a
+/// thousand digits.
+fn deepest_texts() -> Vec<Request> {
+    let many = |text: &str, times: usize| text.repeat(times);
+    let texts = [
+        format!("{}false", many("wprev ", 31)),
+        format!("{}false{}", many("wprev(", 31), many(")", 31)),
+        format!("{}r1=1", many("r1=1 implies ", 15)),
+        format!("{}r1=1{}", many("(r1=1 since ", 15), many(")", 15)),
+        format!("{}r1=1 or r2=2{}", many("(", 10_000), many(")", 10_000)),
+        format!("{}r1=1", many("not ", 10_000)),
+        format!("r1={}", many("9", 1_000)),
+        "r1=1 implies r2=2 or r3=3 and r4=4 since not sofar false".into(),
+    ];
+    texts.map(|text| Request::Text { text: text.into(), out: vec![0; 32], numbers: vec![0; 2] }).into()
+}
+
 /// What the header says of a function.
 fn stated(name: &str) -> usize {
     let header = include_str!("../../../include/guard.h");
@@ -194,12 +217,15 @@ fn stack_is_what_the_header_says() {
             put(&mut stack, &mut most, &request);
         }
     }
-    println!("deepest rules and full scripts: {most:?}");
+    for request in deepest_texts() {
+        put(&mut stack, &mut most, &request);
+    }
+    println!("deepest rules and texts, full scripts: {most:?}");
     for n in 0..REQUESTS {
         put(&mut stack, &mut most, &request(3, n));
     }
     println!("and random requests: {most:?}");
-    assert_eq!(most.len(), 8);
+    assert_eq!(most.len(), 9);
     for (name, bytes) in most {
         let said = stated(name);
         assert!(bytes <= said, "GUARD_STACK_{name} says {said}, a call took {bytes}");
