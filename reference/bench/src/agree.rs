@@ -3,6 +3,7 @@ use crate::peers::judge::{many_at_once, one_at_a_time};
 use crate::peers::machine::{run, step};
 use crate::peers::rule::Rule;
 use crate::peers::script::{check_code, check_script, BARE};
+use crate::peers::text::read_text;
 use crate::peers::weave::weave;
 use crate::peers::No;
 use compare::proved;
@@ -66,6 +67,14 @@ fn agree_on(request: Request) {
                 assert_eq!(result, step(&rule, &script, &inputs, &mut peer_history, &mut peer_state));
                 assert!(state == peer_state && history == peer_history);
             }
+        }
+        Request::Text { text, mut out, .. } => {
+            let mut p = [0; 2];
+            let mut peer_out = out.clone();
+            let result = proved::text(&text, &mut out, &mut p);
+            let peer = read_text(&text, &mut peer_out);
+            assert_eq!(p[1], *peer.as_ref().unwrap_or(&0) as u64);
+            assert!((result, p[0]) == numbers(peer) && out == peer_out);
         }
         Request::Fresh { .. } => {}
     }

@@ -215,11 +215,54 @@ fn step_row() -> Row {
     Row::new(format!("step that reads and presents, {STEPS} calls"), "step", STEPS, calls)
 }
 
+/// A rule of 32 nodes, as it is typed.
+const FULL_TEXT: &str = "r1=1 since r2=1 and not r3<40 or prev(r4=4 implies once r5<50) implies r6=6 since wprev wprev r7=7";
+
+fn text_rows() -> Vec<Row> {
+    let nested = format!("{}r1=1{}", "(".repeat(10_000), ")".repeat(10_000));
+    let digits = format!("r1={}", "9".repeat(1_000));
+    let spoiled = format!("{FULL_TEXT})");
+    let mut rows = vec![];
+    // what is handed back, the place and how many nodes
+    for (name, text, answer) in [
+        ("11 nodes", "r1=1 since r2=1 and not r3<40", (0, [0, 11])),
+        ("32 nodes", FULL_TEXT, (0, [0, 32])),
+        ("one node in 10000 brackets", &nested, (0, [0, 1])),
+        ("a number of 1000 digits, refused (17)", &digits, (17, [3, 0])),
+        ("32 nodes, refused at the end (16)", &spoiled, (16, [FULL_TEXT.len() as u64, 0])),
+    ] {
+        let (text, peer_text) = (text.as_bytes().to_vec(), text.as_bytes().to_vec());
+        let bytes = text.len();
+        let (mut out, mut peer_out, mut n) = ([0; 32], [0; 32], [0; 2]);
+        assert_eq!((proved::text(&text, &mut out, &mut n), n), answer);
+        let peer = match peers::text::read_text(&text, &mut peer_out) {
+            Ok(count) => (0, [0, count as u64]),
+            Err(no) => (no.number, [no.place as u64, 0]),
+        };
+        assert!(peer == answer && out == peer_out);
+        rows.push(Row::new(
+            format!("read_text, {bytes} bytes, {name}"),
+            "byte",
+            bytes,
+            vec![
+                Box::new(move || {
+                    black_box(proved::text(black_box(&text), &mut out, &mut n));
+                }),
+                Box::new(move || {
+                    black_box(peers::text::read_text(black_box(&peer_text), &mut peer_out).is_ok());
+                }),
+            ],
+        ));
+    }
+    rows
+}
+
 fn main() {
     agree::agree(20_000);
     let mut rows = script_rows();
     rows.extend(run_rows());
     rows.push(step_row());
+    rows.extend(text_rows());
     let mut tables = [Table { peers: &["one at a time", "64 at once"], rows: judge_rows() }, Table { peers: &["peer"], rows }];
     measure(&mut tables);
     tables.iter().for_each(Table::print);

@@ -13,8 +13,8 @@ fn ask(text: &[u8], words: usize, met: &mut Met) {
 }
 
 #[rustfmt::skip]
-const TOKENS: [&str; 16] = [
-    "true", "r", "r1", "r2<3", "=", "1", "16384", "not", "once", "sofar", "since", "and", "or", "implies", "(", ")",
+const TOKENS: [&str; 19] = [
+    "true", "false", "not", "wprev", "prev", "once", "sofar", "since", "and", "or", "implies", "(", ")", "r", "r1", "r2<3", "=", "1", "16384",
 ];
 
 /// All texts of up to five tokens, one after the other with a space between them and without.
@@ -163,8 +163,8 @@ fn right(tokens: &[Token], words: usize) -> Vec<&'static str> {
 #[test]
 fn texts_meet_the_grammar() {
     let mut met: BTreeMap<String, u32> = BTreeMap::new();
-    for n in 0..200_000 {
-        let Request::Text { text, out, .. } = request(20_261_115, n) else { continue };
+    for n in (7..200_000).step_by(8) {
+        let Request::Text { text, out, .. } = request(20_261_115, n) else { panic!("every eighth request is a text") };
         let mut names: Vec<String> = vec![];
         match tokens(&text) {
             Err(No { place, .. }) => names.extend(wrong(&text, place).iter().map(|name| name.to_string())),

@@ -3,6 +3,7 @@ pub mod judge;
 pub mod machine;
 pub mod rule;
 pub mod script;
+pub mod text;
 pub mod weave;
 
 /// A refusal.
