@@ -194,7 +194,7 @@ fn formula(tokens: &[Token]) -> Formula {
     let least = (0..tokens.len()).map(|i| binding(&i)).min().expect("an operand has a token");
     let mut alike = (0..tokens.len()).filter(|i| binding(i) == least);
     let first = alike.next().expect("the least is there");
-    let at = if groups_to_the_left(&tokens[first].item) { alike.last().unwrap_or(first) } else { first };
+    let at = if groups_to_the_left(&tokens[first].item) { alike.next_back().unwrap_or(first) } else { first };
     let left = || Box::new(formula(&tokens[..at]));
     let right = || Box::new(formula(&tokens[at + 1..]));
     match tokens[at].item {
