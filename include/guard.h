@@ -12,15 +12,15 @@
  * function may write overlaps no other array of the same call, and no other thread uses it during the call. Every length is
  * allowed; nothing is read or written past it.
  *
- * THE NUMBER HANDED BACK is 0, or 1 to 15: the question that has a no (enum guard_question), or GUARD_TOO_SHORT where the lent
+ * THE NUMBER HANDED BACK is 0, or 1 to 18: the question that has a no (enum guard_question), or GUARD_TOO_SHORT where the lent
  * `numbers` or `state` is shorter than the function needs, or (guard_step alone) GUARD_TOO_LARGE.
  *
  * THE OTHER NUMBERS of an answer go into the first elements of `numbers`, as many as the function's GUARD_..._NUMBERS; elements
- * after these stay as they were. On a refusal (1 to 15) numbers[GUARD_PLACE] is the place and every other number of the answer
+ * after these stay as they were. On a refusal (1 to 18) numbers[GUARD_PLACE] is the place and every other number of the answer
  * is 0; otherwise the place is 0.
  *
- * WHAT A REFUSAL LEAVES UNTOUCHED. With 1 to 15 the output of guard_weave and the history of guard_run are as they were. With
- * GUARD_TOO_SHORT and GUARD_TOO_LARGE nothing at all is written, `numbers` and `state` included.
+ * WHAT A REFUSAL LEAVES UNTOUCHED. With 1 to 18 the output of guard_text and guard_weave and the history of guard_run are as they
+ * were. With GUARD_TOO_SHORT and GUARD_TOO_LARGE nothing at all is written, `numbers` and `state` included.
  *
  * FORMATS. A rule is 1 to 32 nodes, one 32-bit word each, from the most significant bit: kind 3 bits, register 4, constant 14,
  * left 5, right 5, a zero bit; an operand is a node's number, from 0. A bare script is 1 to 1,024 lines of one 32-bit word:
@@ -45,8 +45,8 @@
 extern "C" {
 #endif
 
-/* The questions, in the order in which they are put; each is put to the whole input before the next. In brackets what the place
- * counts, from 0; the others have place 0. */
+/* The questions, in the order in which they are put, but for a text: 16, 17, 18, then 13. Each is put to the whole input before
+ * the next. In brackets what the place counts, from 0; the others have place 0. */
 enum guard_question {
     GUARD_YES = 0,                /* every question has a yes */
     GUARD_NODE_COUNT = 1,         /* has the rule 1 to 32 nodes? */
@@ -62,9 +62,13 @@ enum guard_question {
     GUARD_PRESENT_KNOWN = 10,     /* at each present, is the rule known to be true? (line) */
     GUARD_FACTS_FOLLOW = 11,      /* are the facts noted at each following line among those passed on? (the line passing) */
     GUARD_WOVEN_LINES = 12,       /* has the woven script at most 1,024 lines? */
-    GUARD_OUTPUT_WORDS = 13,      /* are there eight words for each woven line in the output? */
+    GUARD_OUTPUT_WORDS = 13,      /* are there enough words in the output, eight for a woven line, one for a text's node? */
     GUARD_HISTORY_LENGTH = 14,    /* is the history's length a multiple of 16? */
     GUARD_NUMBERS_SMALL = 15,     /* are all numbers of the history, or of the inputs, at most 16,383? (position) */
+    GUARD_TEXT_GRAMMAR = 16,      /* is the text one of the grammar? (the first byte that no continuation could follow, or the
+                                     length where the text ends too soon) */
+    GUARD_TEXT_RANGE = 17,        /* are registers at most 15, numbers at most 16,383? (the first byte of the number) */
+    GUARD_TEXT_NODE_COUNT = 18,   /* has the rule that the text stands for at most 32 nodes? */
     GUARD_TOO_LARGE = 98,         /* guard_step: a register in `state` is above 65,535 */
     GUARD_TOO_SHORT = 99          /* `numbers` or `state` is shorter than the function needs */
 };
@@ -80,6 +84,7 @@ enum {
 /* Bytes of stack that a call of each function takes at most, its return address included, rounded up to the next 128. What
  * interrupts and signal handlers put on the same stack comes on top. */
 enum guard_stack {
+    GUARD_STACK_TEXT = 1280,
     GUARD_STACK_RULE = 128,
     GUARD_STACK_BARE = 256,
     GUARD_STACK_SCRIPT = 896,
@@ -92,6 +97,38 @@ enum guard_stack {
 
 /* In the numbers of every function. */
 enum { GUARD_PLACE = 0 };
+
+/* A rule typed as text: questions 16, 17, 18 and 13. Its nodes go to the first words of `out`, operands first, left before right,
+ * none shared, and guard_rule lets them pass; later words of `out` stay. The text and its nodes have the same verdict on every history.
+ *
+ * A text is bytes of ASCII, small letters only; no zero byte ends it. In a text
+ *
+ *     r1=1  r3<40  true  false                   register 1 equals 1; register 3 is below 40; the constants
+ *     not a                                      a is false
+ *     prev a  wprev a                            a was true at the last presentation; the same, or this is the first
+ *     once a  sofar a                            a is or was true at some presentation; a is and was true at every one
+ *     a since b                                  b is or was true, and a has been true ever since
+ *     a and b  a or b  a implies b
+ *
+ * The words before a formula bind tightest, then since, then and, then or, then implies; since, and and or group to the left, implies to
+ * the right, and round brackets override. Spaces may stand between words, numbers and signs and at either end, and must between two
+ * words; r and its number touch and count as a word. Numbers may have leading zeros.
+ *
+ *     static const char text[] = "r1=1 since r2=1 and not r3<40";
+ *     uint32_t rule[GUARD_MOST_NODES];
+ *     uint64_t numbers[GUARD_TEXT_NUMBERS];
+ *     uint32_t question = guard_text((const uint8_t *)text, sizeof text - 1, rule, GUARD_MOST_NODES, numbers, GUARD_TEXT_NUMBERS);
+ *     if (question == GUARD_YES)
+ *         printf("%u nodes\n", (unsigned)numbers[GUARD_TEXT_NODES]);                            prints "11 nodes"
+ *     else
+ *         printf("refused %u\n%s\n%*s\n", question, text, (int)numbers[GUARD_PLACE] + 1, "^");  a mark under the byte
+ */
+enum {
+    GUARD_TEXT_NODES = 1,         /* how many nodes were written */
+    GUARD_TEXT_NUMBERS = 2
+};
+uint32_t guard_text(const uint8_t *text, size_t text_length, uint32_t *out, size_t out_length,
+                    uint64_t *numbers, size_t numbers_length);
 
 /* A rule: questions 1 to 4. */
 enum { GUARD_RULE_NUMBERS = 1 /* place */ };
