@@ -1,14 +1,14 @@
 -- What stands at the beginning of bytes: the digits of a number, the letters of a word.
 use mathlib.Core.Bool.{true, false, cond}
 use mathlib.Core.List.{List, [], _∷_}
-use Prim.Native.Nat.{ℕ, suc, _+_, _-_, _*_}
+use Prim.Native.Nat.{ℕ, suc, _+_, _*_}
 use lib.Dec.{eqb}
-use Rattle.grammar.specs.Grammar.{isDigit}
+use Rattle.grammar.specs.Grammar.{isDigit, digitValue}
 
 -- the value of the digits, after digits with the value n
 unfoldable pub leadingFrom : ℕ → List ℕ → ℕ
 leadingFrom n [] = n
-leadingFrom n (b ∷ bs) = elim (isDigit b) [ true ↦ leadingFrom (10 * n + (b - 48)) bs | false ↦ n ]
+leadingFrom n (b ∷ bs) = elim (isDigit b) [ true ↦ leadingFrom (10 * n + digitValue b) bs | false ↦ n ]
 
 -- how many digits
 unfoldable pub digitsIn : List ℕ → ℕ

@@ -3,9 +3,11 @@ use mathlib.Core.Path.{_≡_}
 use mathlib.Core.Bool.{Bool, true, false, _&&_}
 use mathlib.Core.List.{List, [], _∷_, _++_}
 use Prim.Native.Nat.{ℕ, suc, _+_, _-_, _*_, _<_}
+use Prim.Native.Char.{code}
 use mathlib.Core.Logic.{_⊎_}
 use lib.ListN.{length, take}
 use lib.Dec.{leb}
+use Rattle.spec.specs.Ascii.{ascii}
 use Rattle.spec.specs.Questions.{all}
 use Rattle.grammar.specs.Typed.{Prefix, not, wprev, prev, once, sofar, Operator, sinceWord, andWord, orWord, impliesWord, Comparison, equalTo, lessThan, TextFormula, constant, atom, prefixed, joined}
 
@@ -71,43 +73,42 @@ pub data Spells : ℕ → List Token → TextFormula → Type 0 where
 
 -- ---- bytes that write tokens
 
--- the letters of a word, small (ASCII)
+-- the letters of a word, small
 abbrev pub lettersOf : Word → List ℕ
--- "true", "false"
-lettersOf (constantWord true) = 116 ∷ 114 ∷ 117 ∷ 101 ∷ []
-lettersOf (constantWord false) = 102 ∷ 97 ∷ 108 ∷ 115 ∷ 101 ∷ []
--- "not", "wprev", "prev", "once", "sofar"
-lettersOf (prefixWord not) = 110 ∷ 111 ∷ 116 ∷ []
-lettersOf (prefixWord wprev) = 119 ∷ 112 ∷ 114 ∷ 101 ∷ 118 ∷ []
-lettersOf (prefixWord prev) = 112 ∷ 114 ∷ 101 ∷ 118 ∷ []
-lettersOf (prefixWord once) = 111 ∷ 110 ∷ 99 ∷ 101 ∷ []
-lettersOf (prefixWord sofar) = 115 ∷ 111 ∷ 102 ∷ 97 ∷ 114 ∷ []
--- "since", "and", "or", "implies"
-lettersOf (operatorWord sinceWord) = 115 ∷ 105 ∷ 110 ∷ 99 ∷ 101 ∷ []
-lettersOf (operatorWord andWord) = 97 ∷ 110 ∷ 100 ∷ []
-lettersOf (operatorWord orWord) = 111 ∷ 114 ∷ []
-lettersOf (operatorWord impliesWord) = 105 ∷ 109 ∷ 112 ∷ 108 ∷ 105 ∷ 101 ∷ 115 ∷ []
+lettersOf (constantWord true) = ascii "true"
+lettersOf (constantWord false) = ascii "false"
+lettersOf (prefixWord not) = ascii "not"
+lettersOf (prefixWord wprev) = ascii "wprev"
+lettersOf (prefixWord prev) = ascii "prev"
+lettersOf (prefixWord once) = ascii "once"
+lettersOf (prefixWord sofar) = ascii "sofar"
+lettersOf (operatorWord sinceWord) = ascii "since"
+lettersOf (operatorWord andWord) = ascii "and"
+lettersOf (operatorWord orWord) = ascii "or"
+lettersOf (operatorWord impliesWord) = ascii "implies"
 
--- ( ) = <
 abbrev pub byteOf : Sign → ℕ
-byteOf openSign = 40
-byteOf closeSign = 41
-byteOf equalSign = 61
-byteOf belowSign = 60
+byteOf openSign = code "("
+byteOf closeSign = code ")"
+byteOf equalSign = code "="
+byteOf belowSign = code "<"
 
 abbrev pub space : ℕ
-space = 32
+space = code " "
 
 abbrev pub letterR : ℕ
-letterR = 114
+letterR = code "r"
 
 -- decimal digits, and the number they write: leading zeros are allowed, and there may be any number of digits
 abbrev pub isDigit : ℕ → Bool
-isDigit b = leb 48 b && leb b 57
+isDigit b = leb (code "0") b && leb b (code "9")
+
+abbrev pub digitValue : ℕ → ℕ
+digitValue b = b - code "0"
 
 abbrev pub valueFrom : ℕ → List ℕ → ℕ
 valueFrom n [] = n
-valueFrom n (b ∷ bs) = valueFrom (10 * n + (b - 48)) bs
+valueFrom n (b ∷ bs) = valueFrom (10 * n + digitValue b) bs
 
 -- `Writes touching bs ts`: the bytes write the tokens. `touching` says that a word ends just before them.
 pub data Writes : Bool → List ℕ → List Token → Type 0 where

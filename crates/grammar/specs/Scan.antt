@@ -4,12 +4,12 @@
 use mathlib.Core.Bool.{Bool, true, false, cond}
 use mathlib.Core.Option.{Option, none, some}
 use mathlib.Core.List.{List, [], _∷_, _++_}
-use Prim.Native.Nat.{ℕ, suc, _+_, _-_, _*_}
+use Prim.Native.Nat.{ℕ, suc, _+_, _*_}
 use lib.ListN.{getD, drop}
 use lib.Dec.{eqb}
 use Rattle.spec.specs.Questions.{Checked, noAt}
 use Rattle.grammar.specs.Typed.{not, wprev, prev, once, sofar, sinceWord, andWord, orWord, impliesWord}
-use Rattle.grammar.specs.Grammar.{Word, constantWord, prefixWord, operatorWord, Sign, openSign, closeSign, equalSign, belowSign, Token, word, register, number, sign, lettersOf, byteOf, space, letterR, isDigit}
+use Rattle.grammar.specs.Grammar.{Word, constantWord, prefixWord, operatorWord, Sign, openSign, closeSign, equalSign, belowSign, Token, word, register, number, sign, lettersOf, byteOf, space, letterR, isDigit, digitValue}
 use Rattle.grammar.specs.Place.{Want, operand, comparison, constantNumber, operator, Place, at, afterWord, afterSign, mayEndAt}
 
 -- a byte by its kind: anything but a space, a sign or a digit is taken for a letter, and then compared with the words
@@ -26,7 +26,7 @@ kindOf b =
     (cond (eqb b (byteOf closeSign)) (isSign closeSign)
     (cond (eqb b (byteOf equalSign)) (isSign equalSign)
     (cond (eqb b (byteOf belowSign)) (isSign belowSign)
-    (cond (isDigit b) (digit (b - 48)) letter)))))
+    (cond (isDigit b) (digit (digitValue b)) letter)))))
 
 pub data Scan : Type 0 where
   -- between tokens; touching: a word ends just before

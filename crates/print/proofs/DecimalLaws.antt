@@ -14,8 +14,9 @@ use native.Mathlib.Nat.{pow-suc}
 use native.Mathlib.Omega.{arith}
 use lib.ListN.{length, set, length-append}
 use borrow.Author.Tests.{lt-ltb, le-ltb}
+use Rattle.spec.specs.Ascii.{ascii}
 use Rattle.spec.proofs.BoolLaws.{le-or-lt}
-use Rattle.print.specs.Decimal.{digit, digitsFor, decimal, number, refusedWord, refusedText}
+use Rattle.print.specs.Decimal.{digit, digitsFor, decimal, number, refusedText}
 use Rattle.print.specs.Written.{Added}
 use Rattle.print.proofs.AddedLaws.{added-as, added-one, added-byte, Filled}
 
@@ -110,4 +111,4 @@ unfolding refusedText
 refused-short q i h k =
     let a = number-short 9 q 32 (omega arith) in
     let b = number-short 19 i 10 (omega arith) in
-    omega (arith, length-append (refusedWord ++ number q 32) (number i 10), length-append refusedWord (number q 32))
+    omega (arith, length-append (ascii "refused " ++ number q 32) (number i 10), length-append (ascii "refused ") (number q 32))

@@ -14,6 +14,7 @@ use native.Mathlib.Omega.{arith}
 use lib.ListN.{length, getD, take, drop, List·getD-append}
 use lib.Seq.{take-at}
 use borrow.Author.Tests.{le-leb, leb-true}
+use Rattle.spec.specs.Ascii.{ascii}
 use Rattle.spec.specs.Questions.{Answer, passed, refused, Checked, _then_}
 use Rattle.spec.specs.Rule.{form32}
 use Rattle.spec.specs.Script.{checkBare}
@@ -23,7 +24,7 @@ use Rattle.spec.proofs.QuestionLaws.{then-passed, then-refused, both-passed, on
 use Rattle.spec.proofs.RuleLaws.{rule-out}
 use Rattle.spec.proofs.WeaverLaws.{length-woven}
 use Rattle.print.specs.Decimal.{newline, number, refusedText}
-use Rattle.render.specs.Text.{lineText, linesText, linesWord, answerText}
+use Rattle.render.specs.Text.{lineText, linesText, answerText}
 use Rattle.print.specs.Written.{Added}
 use Rattle.render.specs.Input.{counted}
 use Rattle.render.specs.Listing.{wovenText, listingOf}
@@ -102,7 +103,7 @@ module _ (rule bare out : List ℕ) (roomy : 8192 ≤ length out) where
       pub lines-text : answerText words (passed n) ≡ wovenText rule bare
       unfolding wovenText answerText
       lines-text =
-          ap (λ t. linesWord ++ number n newline ++ t) (lines-agree words (woven form32 rule bare) n first-word)
+          ap (λ t. ascii "lines " ++ number n newline ++ t) (lines-agree words (woven form32 rule bare) n first-word)
           ∙ ap (λ a. answerText (woven form32 rule bare) a) (e ∙ weaving-roomy)
 
 -- a text put at 0

@@ -1,7 +1,8 @@
 -- The text of a listing, as the bytes of its letters (ASCII).
-use mathlib.Core.List.{List, [], _∷_, _++_}
+use mathlib.Core.List.{List, [], _++_}
 use Prim.Native.Nat.{ℕ, zero, suc, _*_}
 use lib.ListN.{getD}
+use Rattle.spec.specs.Ascii.{ascii}
 use Rattle.spec.specs.Questions.{Answer, passed, refused}
 use Rattle.spec.specs.Script.{fieldsOf}
 use Rattle.spec.specs.Check.{lineLength}
@@ -18,11 +19,7 @@ unfoldable pub linesText : List ℕ → (n : ℕ) → List ℕ
 linesText words zero = []
 linesText words (suc n) = linesText words n ++ lineText n (getD words (lineLength * n) 0)
 
--- "lines "
-abbrev pub linesWord : List ℕ
-linesWord = 108 ∷ 105 ∷ 110 ∷ 101 ∷ 115 ∷ 32 ∷ []
-
 -- a header with the count, then the lines; for a refused input only "refused", number, place
 unfoldable pub answerText : (words : List ℕ) → Answer ℕ → List ℕ
-answerText words (passed n) = linesWord ++ number n newline ++ linesText words n
+answerText words (passed n) = ascii "lines " ++ number n newline ++ linesText words n
 answerText words (refused q i) = refusedText q i
