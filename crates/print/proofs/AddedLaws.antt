@@ -3,16 +3,16 @@
 --     added-then, added-byte                    one text after another; a store after a text
 --     added-length                              the output's length stays
 --     bytes-start, bytes-next, bytes-end        the bytes of a text, one after another
---     Filled, filled-as                         a text of at most so many bytes
---     filled-then, filled-added, filled-room    one after another, and the space that is left
+--     filled-as, filled-then, filled-room, filled-last    texts of at most so many bytes, and the space that is left
+--     each-start, each-next, each-same          texts of 0, 1, 2 and so on
 -- Assumes nothing.
 use mathlib.Core.Path.{_≡_, refl, sym, ap, subst, _∙_}
 use mathlib.Core.List.{List, [], _∷_, _++_, append-assoc, append-nil}
-use Prim.Native.Nat.{ℕ, suc, _+_, _≤_, _<_}
+use Prim.Native.Nat.{ℕ, zero, suc, _+_, _*_, _≤_, _<_}
 use native.Mathlib.Omega.{arith}
 use lib.ListN.{length, getD, take, drop, set, length-append, length-drop, take-append-drop}
 use lib.Seq.{length-take-le, drop-drop, drop-append-add, take-at, take-all, take-suc, set-split}
-use Rattle.print.specs.Written.{Added}
+use Rattle.print.specs.Written.{Added, Filled, eachOf}
 
 pub added-as : (a b : List ℕ) (at end : ℕ) (o o1 : List ℕ) → a ≡ b → Added a at end o o1 → Added b at end o o1
 added-as a b at end o o1 e x = subst (λ t. Added t at end o o1) e x
@@ -103,11 +103,6 @@ module _ (text : List ℕ) (at : ℕ) (o : List ℕ) (room : at + length text �
   pub bytes-end : (i : ℕ) (o1 : List ℕ) → length text ≤ i → Added (take i text) at (at + i) o o1 → Added text at (at + i) o o1
   bytes-end i o1 h x = added-as (take i text) text at (at + i) o o1 (take-all i text h) x
 
--- a text of at most j bytes
-pub record Filled (j : ℕ) (a : List ℕ) (at end : ℕ) (o o1 : List ℕ) : Type 0 where
-  pub added : Added a at end o o1
-  pub short : length a ≤ j
-
 pub filled-as : (j : ℕ) {a : List ℕ} {at end : ℕ} {o o1 : List ℕ} → length a ≤ j → Added a at end o o1 → Filled j a at end o o1
 filled-as j h x = record { added = x; short = h }
 
@@ -127,8 +122,29 @@ filled-room k {j} {a} {at} {end} {o} {o1} room x =
     omega arith
 
 -- the last text of several
-pub filled-added : {j : ℕ} {a b : List ℕ} {at end end2 : ℕ} {o o1 o2 : List ℕ} → at + j ≤ length o → Filled j a at end o o1
+pub filled-last : {j : ℕ} {a b : List ℕ} {at end end2 : ℕ} {o o1 o2 : List ℕ} → at + j ≤ length o → Filled j a at end o o1
     → Added b end end2 o1 o2 → Added (a ++ b) at end2 o o2
-filled-added {j} {a} {b} {at} {end} {end2} {o} {o1} {o2} room x y =
+filled-last {j} {a} {b} {at} {end} {end2} {o} {o1} {o2} room x y =
     let s = x .short in
     added-then a at end o o1 (omega arith) (x .added) b end2 o2 y
+
+-- ---- texts of 0, 1, 2 and so on, each of at most w bytes
+
+module _ (f : ℕ → List ℕ) (w at : ℕ) (o : List ℕ) where
+  pub each-start : Filled (w * 0) (eachOf f 0) at at o o
+  unfolding eachOf
+  each-start = record { added = added-none at o; short = omega arith }
+
+  pub each-next : (l end end2 : ℕ) (o1 o2 : List ℕ) → at + w * (l + 1) ≤ length o → Filled (w * l) (eachOf f l) at end o o1
+      → Filled w (f l) end end2 o1 o2 → Filled (w * (l + 1)) (eachOf f (l + 1)) at end2 o o2
+  unfolding eachOf
+  each-next l end end2 o1 o2 room x y =
+      let e : suc l ≡ l + 1 = omega arith in
+      let j : w * l + w ≡ w * (l + 1) = omega arith in
+      let z : Filled (w * l + w) (eachOf f (suc l)) at end2 o o2 = filled-then (omega arith) x y in
+      subst (λ n. Filled n (eachOf f (l + 1)) at end2 o o2) j (subst (λ n. Filled (w * l + w) (eachOf f n) at end2 o o2) e z)
+
+pub each-same : (f g : ℕ → List ℕ) (n : ℕ) → ((l : ℕ) → l < n → f l ≡ g l) → eachOf f n ≡ eachOf g n
+unfolding eachOf
+each-same f g zero h = refl
+each-same f g (suc n) h = ap (λ t. t ++ f n) (each-same f g n (λ l k. h l (omega arith))) ∙ ap (λ t. eachOf g n ++ t) (h n (omega arith))

@@ -4,7 +4,6 @@
 --     one-digit, tenth, last-room, last-digit    digits written one after another
 --     digits-room, end-room                      a number with what ends it has a place
 --     number-short, number-filled, number-room    a number of few digits is short
---     refused-short                              and so is a refusal
 -- Assumes nothing.
 use mathlib.Core.Path.{_≡_, sym, ap, subst, _∙_}
 use mathlib.Core.Logic.{inl, inr}
@@ -14,11 +13,10 @@ use native.Mathlib.Nat.{pow-suc}
 use native.Mathlib.Omega.{arith}
 use lib.ListN.{length, set, length-append}
 use borrow.Author.Tests.{lt-ltb, le-ltb}
-use Rattle.spec.specs.Ascii.{ascii}
 use Rattle.spec.proofs.BoolLaws.{le-or-lt}
-use Rattle.print.specs.Decimal.{digit, digitsFor, decimal, number, refusedText}
-use Rattle.print.specs.Written.{Added}
-use Rattle.print.proofs.AddedLaws.{added-as, added-one, added-byte, Filled}
+use Rattle.print.specs.Decimal.{digit, digitsFor, decimal, number}
+use Rattle.print.specs.Written.{Added, Filled}
+use Rattle.print.proofs.AddedLaws.{added-as, added-one, added-byte}
 
 -- any `most` above n gives the same digits
 digits-same : (a b n : ℕ) → n < a → n < b → digitsFor a n ≡ digitsFor b n
@@ -104,11 +102,3 @@ number-filled d n e h x = record { added = x; short = number-short d n e h }
 
 pub number-room : (d n e at : ℕ) (o : List ℕ) → n < 10 ^ suc d → at + (d + 2) ≤ length o → at + length (number n e) ≤ length o
 number-room d n e at o h room = let s = number-short d n e h in omega arith
-
--- "refused", a number of 32 bits, a place of 64
-pub refused-short : (q i : ℕ) → q < 4294967296 → i < 18446744073709551616 → length (refusedText q i) ≤ 50
-unfolding refusedText
-refused-short q i h k =
-    let a = number-short 9 q 32 (omega arith) in
-    let b = number-short 19 i 10 (omega arith) in
-    omega (arith, length-append (ascii "refused " ++ number q 32) (number i 10), length-append (ascii "refused ") (number q 32))

@@ -3,7 +3,7 @@ ghost use mathlib.Core.Path.{_≡_};
 ghost use Prim.Native.Nat.{_+_, _≤_, _<_};
 ghost use lib.ListN.{length};
 ghost use Rattle.print.specs.Decimal.{digit, decimal, number, refusedText};
-ghost use Rattle.print.specs.Written.{Added};
+ghost use Rattle.print.specs.Written.{Added, Filled};
 
 // These bytes at `at`.
 pub fn add_bytes(text: &[u8], at: usize, out: &mut [u8]) -> usize
@@ -53,7 +53,7 @@ pub fn add_number(n: usize, end: u8, at: usize, out: &mut [u8]) -> usize
 // "refused", number, place.
 pub fn add_refused(question: u32, place: usize, at: usize, out: &mut [u8]) -> usize
     requires { ⌜ at + 50 ≤ length (now out) ⌝ }
-    ensures { λ r. ⌜ Added (refusedText question place) at r (now (out .entry)) (now (out .exit)) ⌝ }
+    ensures { λ r. ⌜ Filled 50 (refusedText question place) at r (now (out .entry)) (now (out .exit)) ⌝ }
 {
     let number_at = add_bytes(b"refused ", at, out);
     let place_at = add_number(question as usize, b' ', number_at, out);

@@ -12,6 +12,7 @@ use Rattle.spec.proofs.Compute.{everything}
 use Rattle.words.specs.Words.{wordAt}
 use Rattle.render.specs.Input.{wordsFrom, countIn}
 use Rattle.print.specs.Decimal.{digitsFor, decimal, refusedText}
+use Rattle.print.specs.Written.{eachOf}
 use Rattle.render.specs.Text.{lineText, linesText, answerText}
 use Rattle.render.specs.Listing.{wovenText, listingOf}
 
@@ -27,7 +28,7 @@ toneInput =
 
 -- "refused 1 0"
 pub nothing-listed : listingOf [] ≡ 114 ∷ 101 ∷ 102 ∷ 117 ∷ 115 ∷ 101 ∷ 100 ∷ 32 ∷ 49 ∷ 32 ∷ 48 ∷ 10 ∷ []
-unfolding everything wordAt wordsFrom countIn digitsFor decimal refusedText lineText linesText answerText wovenText listingOf
+unfolding everything wordAt wordsFrom countIn digitsFor decimal refusedText eachOf lineText linesText answerText wovenText listingOf
 nothing-listed = refl
 
 -- the lines as document 01 prints them
@@ -52,10 +53,10 @@ toneText =
     ++ (49 ∷ 53 ∷ 32 ∷ 55 ∷ 32 ∷ 48 ∷ 32 ∷ 48 ∷ 32 ∷ 48 ∷ 10 ∷ [])
 
 pub tone-listed : listingOf toneInput ≡ toneText
-unfolding everything wordAt wordsFrom countIn digitsFor decimal refusedText lineText linesText answerText wovenText listingOf bytes toneInput toneText
+unfolding everything wordAt wordsFrom countIn digitsFor decimal refusedText eachOf lineText linesText answerText wovenText listingOf bytes toneInput toneText
 tone-listed = refl
 
 -- "refused 5 0"
 pub cut-listed : listingOf (take 35 toneInput) ≡ 114 ∷ 101 ∷ 102 ∷ 117 ∷ 115 ∷ 101 ∷ 100 ∷ 32 ∷ 53 ∷ 32 ∷ 48 ∷ 10 ∷ []
-unfolding everything wordAt wordsFrom countIn digitsFor decimal refusedText lineText linesText answerText wovenText listingOf bytes toneInput
+unfolding everything wordAt wordsFrom countIn digitsFor decimal refusedText eachOf lineText linesText answerText wovenText listingOf bytes toneInput
 cut-listed = refl

@@ -26,6 +26,7 @@ use Rattle.spec.proofs.WeaverLaws.{length-woven}
 use Rattle.print.specs.Decimal.{newline, number, refusedText}
 use Rattle.render.specs.Text.{lineText, linesText, answerText}
 use Rattle.print.specs.Written.{Added}
+use Rattle.print.proofs.AddedLaws.{each-same}
 use Rattle.render.specs.Input.{counted}
 use Rattle.render.specs.Listing.{wovenText, listingOf}
 use Rattle.render.proofs.InputLaws.{length-counted}
@@ -33,10 +34,7 @@ use Rattle.render.proofs.InputLaws.{length-counted}
 pub lines-agree : (vs ws : List ℕ) (n : ℕ) → ((l : ℕ) → l < n → getD vs (8 * l) 0 ≡ getD ws (8 * l) 0)
     → linesText vs n ≡ linesText ws n
 unfolding linesText
-lines-agree vs ws zero h = refl
-lines-agree vs ws (suc n) h =
-    ap (λ t. t ++ lineText n (getD vs (8 * n) 0)) (lines-agree vs ws n (λ l k. h l (omega arith)))
-    ∙ ap (λ w. linesText ws n ++ lineText n w) (h n (omega arith))
+lines-agree vs ws n h = each-same _ _ n (λ l k. ap (lineText l) (h l k))
 
 -- the script that is woven
 module _ (rule bare out : List ℕ) (roomy : 8192 ≤ length out) where

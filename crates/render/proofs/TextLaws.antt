@@ -2,15 +2,15 @@
 --     line-short                   a line has at most 30 bytes
 --     lines-start, lines-next      the lines of a script, one after another
 -- Assumes nothing.
-use mathlib.Core.Path.{_≡_, subst}
 use mathlib.Core.List.{List, _++_}
-use Prim.Native.Nat.{ℕ, suc, _+_, _*_, _/_, _%_, _≤_, _<_}
+use Prim.Native.Nat.{ℕ, _+_, _*_, _/_, _%_, _≤_, _<_}
 use native.Mathlib.Omega.{arith}
 use lib.ListN.{length, getD, length-append}
 use Rattle.spec.specs.Script.{fieldsOf}
+use Rattle.spec.specs.Check.{lineLength}
 use Rattle.print.specs.Decimal.{number}
-use Rattle.print.specs.Written.{Added}
-use Rattle.print.proofs.AddedLaws.{added-none, Filled, filled-then}
+use Rattle.print.specs.Written.{Added, Filled}
+use Rattle.print.proofs.AddedLaws.{filled-as, each-start, each-next}
 use Rattle.print.proofs.DecimalLaws.{number-short}
 use Rattle.render.specs.Text.{lineText, linesText}
 
@@ -38,18 +38,16 @@ line-short l w h =
 
 -- the lines of a script, one after another
 module _ (words : List ℕ) (at : ℕ) (o : List ℕ) where
+  abbrev line : ℕ → List ℕ
+  line l = lineText l (getD words (lineLength * l) 0)
+
   pub lines-start : Filled (30 * 0) (linesText words 0) at at o o
   unfolding linesText
-  lines-start = record { added = added-none at o; short = omega arith }
+  lines-start = each-start line 30 at o
 
   pub lines-next : (l end end2 : ℕ) (o1 o2 : List ℕ) → l < 1024 → at + 30 * (l + 1) ≤ length o
       → Filled (30 * l) (linesText words l) at end o o1 → Added (lineText l (getD words (8 * l) 0)) end end2 o1 o2
       → Filled (30 * (l + 1)) (linesText words (l + 1)) at end2 o o2
   unfolding linesText
   lines-next l end end2 o1 o2 h room x y =
-      let e : suc l ≡ l + 1 = omega arith in
-      let j : 30 * l + 30 ≡ 30 * (l + 1) = omega arith in
-      let f : Filled (30 * l + 30) (linesText words (suc l)) at end2 o o2 =
-      filled-then (omega arith) x (record { added = y; short = line-short l (getD words (8 * l) 0) h }) in
-      subst (λ n. Filled n (linesText words (l + 1)) at end2 o o2) j
-      (subst (λ n. Filled (30 * l + 30) (linesText words n) at end2 o o2) e f)
+      each-next line 30 at o l end end2 o1 o2 room x (filled-as 30 (line-short l (getD words (8 * l) 0) h) y)

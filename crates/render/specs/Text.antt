@@ -1,12 +1,13 @@
 -- The text of a listing, as the bytes of its letters (ASCII).
-use mathlib.Core.List.{List, [], _++_}
-use Prim.Native.Nat.{ℕ, zero, suc, _*_}
+use mathlib.Core.List.{List, _++_}
+use Prim.Native.Nat.{ℕ, _*_}
 use lib.ListN.{getD}
 use Rattle.spec.specs.Ascii.{ascii}
 use Rattle.spec.specs.Questions.{Answer, passed, refused}
 use Rattle.spec.specs.Script.{fieldsOf}
 use Rattle.spec.specs.Check.{lineLength}
 use Rattle.print.specs.Decimal.{space, newline, number, refusedText}
+use Rattle.print.specs.Written.{eachOf}
 
 -- line, opcode, r, c, target, in decimal; w is the line's first word
 unfoldable pub lineText : (l w : ℕ) → List ℕ
@@ -16,8 +17,7 @@ lineText l w =
 
 -- the first n lines of a script of eight words a line
 unfoldable pub linesText : List ℕ → (n : ℕ) → List ℕ
-linesText words zero = []
-linesText words (suc n) = linesText words n ++ lineText n (getD words (lineLength * n) 0)
+linesText words n = eachOf (λ l. lineText l (getD words (lineLength * l) 0)) n
 
 -- a header with the count, then the lines; for a refused input only "refused", number, place
 unfoldable pub answerText : (words : List ℕ) → Answer ℕ → List ℕ

@@ -2,7 +2,7 @@
 use native.Mathlib.Omega.{arith}
 use borrow.Author.Needs.{needs}
 use Rattle.print.specs.Decimal.{refusedText}
-use Rattle.print.proofs.AddedLaws.{filled-as, filled-then, filled-room, filled-added}
+use Rattle.print.proofs.AddedLaws.{filled-as, filled-then, filled-room}
 use Rattle.print.proofs.DecimalLaws.{number-filled, number-room}
 use Rattle.print.proofs.add_refused.Statement.{statement}
 use Rattle.print.proofs.add_refused.Tie as tie
@@ -46,7 +46,7 @@ returns c =
     let room = start .pre in
     let f1 = filled-as 8 (omega arith) (word .add-bytes .ensures) in
     let f2 = filled-then (omega arith) f1 (number-filled 19 (start .args .question) 32 (omega arith) (question .add-number .ensures)) in
-    filled-added (omega arith) f2 (place .add-number2 .ensures)
+    filled-then (omega arith) f2 (number-filled 19 (start .args .place) 10 (omega arith) (place .add-number2 .ensures))
 
 pub add-refused-spec : {M : Type 1} → statement M
 add-refused-spec =

@@ -42,7 +42,7 @@ returns c =
     let args = c .before .before .before .before .before .before .before .before .before .before .args in
     let answer = ap countedOf (sym (told .1)) ∙ weave .ensures .0 in
     let text = refused-text (args .rule .now) (args .bare .now) _ (omega arith) (told .0 .0) (told .0 .1 .0) answer in
-    at-start _ _ _ _ _ text (c .add-refused .ensures)
+    at-start _ _ _ _ _ text (c .add-refused .ensures .added)
 
 returns-2 : tie.Need-returns-2
 returns-2 c =

@@ -5,8 +5,9 @@ use Prim.Native.Nat.{_+_, _-_, _*_, _≤_}
 use native.Mathlib.Omega.{arith}
 use lib.ListN.{length}
 use borrow.Author.Needs.{needs}
+use Rattle.print.specs.Written.{Filled}
 use Rattle.render.specs.Text.{linesText}
-use Rattle.print.proofs.AddedLaws.{added-as, Filled, filled-room}
+use Rattle.print.proofs.AddedLaws.{added-as, filled-room}
 use Rattle.render.proofs.TextLaws.{lines-start, lines-next}
 use Rattle.render.proofs.text.add_lines.Statement.{statement}
 use Rattle.render.proofs.text.add_lines.Tie as tie

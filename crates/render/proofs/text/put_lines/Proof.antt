@@ -3,7 +3,7 @@ use Prim.Native.Nat.{_*_}
 use native.Mathlib.Omega.{arith}
 use borrow.Author.Needs.{needs}
 use Rattle.render.specs.Text.{answerText}
-use Rattle.print.proofs.AddedLaws.{filled-as, filled-then, filled-room, filled-added}
+use Rattle.print.proofs.AddedLaws.{filled-as, filled-then, filled-room, filled-last}
 use Rattle.print.proofs.DecimalLaws.{number-filled, number-room}
 use Rattle.render.proofs.text.put_lines.Statement.{statement}
 use Rattle.render.proofs.text.put_lines.Tie as tie
@@ -48,7 +48,7 @@ returns c =
     let room = start .pre .2 in
     let f1 = filled-as 6 (omega arith) (header .add-bytes .ensures) in
     let f2 = filled-then (omega arith) f1 (number-filled 4 (start .args .n) 10 (omega arith) (count .add-number .ensures)) in
-    filled-added (omega arith) f2 (lines .add-lines .ensures)
+    filled-last (omega arith) f2 (lines .add-lines .ensures)
 
 pub put-lines-spec : {M : Type 1} → statement M
 put-lines-spec =
