@@ -1,6 +1,9 @@
 -- Rules typed as text: the whole of `specs/TextPromise.antt`.
 --     text-promise      for any stored form
 --     text-promise32    for document 01's
+--     writing-in, writing-many, writing-few      questions 18 and 13 of a formula
+--     count-refused, count-passed                an answer by its count
+--     number16                                   16 has this number
 -- Assumes nothing.
 use mathlib.Core.Path.{_≡_, refl, sym, subst, ap, _∙_}
 use mathlib.Core.Logic.{_⊎_, inl, inr}
@@ -23,7 +26,7 @@ use Rattle.grammar.specs.Grammar.{IsText, StuckAt}
 use Rattle.grammar.specs.Scan.{start, stuckFrom, question16}
 use Rattle.grammar.specs.Reading.{formulaOf}
 use Rattle.grammar.specs.Nodes.{size, ruleWords}
-use Rattle.grammar.specs.Texting.{inRangeAt, question17, writing, texting}
+use Rattle.grammar.specs.Texting.{inRangeAt, question17, writing, texting, countOf}
 use Rattle.grammar.specs.TextPromise.{Judged, InRange, OutOfRangeAt, TableFor, TextPromise}
 use Rattle.grammar.proofs.TypedLaws.{opened-agrees}
 use Rattle.grammar.proofs.ScanLaws.{text-passes, passes-text, text-formula, text-one}
@@ -66,13 +69,23 @@ judged σ φ (clean n) m = (m .0, λ j l. opened-agrees σ φ j .1 (m .1 j l))
 
 -- ---- a refusal has its question's number
 
-number16 : (bs : List ℕ) (q i : ℕ) → question16 bs ≡ refused q i → 16 ≡ q
+pub number16 : (bs : List ℕ) (q i : ℕ) → question16 bs ≡ refused q i → 16 ≡ q
 unfolding question16
 number16 bs q i e = no-number 16 q i (stuckFrom 0 start bs) e
 
 number17 : (bs : List ℕ) (q i : ℕ) → question17 bs ≡ refused q i → 17 ≡ q
 unfolding question17 ask
 number17 bs q i e = no-number 17 q i (firstFailing (length bs) 0 (inRangeAt bs)) e
+
+-- ---- the count of the nodes
+
+pub count-refused : (a : Answer (List ℕ)) (q i : ℕ) → countOf a ≡ refused q i → a ≡ refused q i
+count-refused (passed ws) q i e = let z : _≡_ {A = ℕ} 0 1 = cc in absurd (omega arith)
+count-refused (refused p j) q i e = cc
+
+pub count-passed : (a : Answer (List ℕ)) (n : ℕ) → countOf a ≡ passed n → (ws : List ℕ) × (a ≡ passed ws) × (n ≡ length ws)
+count-passed (passed ws) n e = (ws, refl, cc)
+count-passed (refused p j) n e = let z : _≡_ {A = ℕ} 0 1 = cc in absurd (omega arith)
 
 -- ---- the table
 

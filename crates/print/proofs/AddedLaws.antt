@@ -3,7 +3,8 @@
 --     added-then, added-byte                    one text after another; a store after a text
 --     added-length                              the output's length stays
 --     bytes-start, bytes-next, bytes-end        the bytes of a text, one after another
---     filled-as, filled-then, filled-room, filled-last    texts of at most so many bytes, and the space that is left
+--     filled-as, filled-is, filled-then, filled-room, filled-last    texts of at most so many bytes, and the space that is left
+--     at-start, loaded, front-is, front-length    a text put at 0, and the front of the output
 --     each-start, each-next, each-same          texts of 0, 1, 2 and so on
 -- Assumes nothing.
 use mathlib.Core.Path.{_≡_, refl, sym, ap, subst, _∙_}
@@ -106,6 +107,9 @@ module _ (text : List ℕ) (at : ℕ) (o : List ℕ) (room : at + length text �
 pub filled-as : (j : ℕ) {a : List ℕ} {at end : ℕ} {o o1 : List ℕ} → length a ≤ j → Added a at end o o1 → Filled j a at end o o1
 filled-as j h x = record { added = x; short = h }
 
+pub filled-is : {j : ℕ} {a b : List ℕ} {at end : ℕ} {o o1 : List ℕ} → a ≡ b → Filled j a at end o o1 → Filled j b at end o o1
+filled-is {j} {a} {b} {at} {end} {o} {o1} e x = subst (λ t. Filled j t at end o o1) e x
+
 pub filled-then : {j k : ℕ} {a b : List ℕ} {at end end2 : ℕ} {o o1 o2 : List ℕ} → at + (j + k) ≤ length o
     → Filled j a at end o o1 → Filled k b end end2 o1 o2 → Filled (j + k) (a ++ b) at end2 o o2
 filled-then {j} {k} {a} {b} {at} {end} {end2} {o} {o1} {o2} room x y =
@@ -148,3 +152,21 @@ pub each-same : (f g : ℕ → List ℕ) (n : ℕ) → ((l : ℕ) → l < n → 
 unfolding eachOf
 each-same f g zero h = refl
 each-same f g (suc n) h = ap (λ t. t ++ f n) (each-same f g n (λ l k. h l (omega arith))) ∙ ap (λ t. eachOf g n ++ t) (h n (omega arith))
+
+-- ---- a text put at 0
+
+pub at-start : (a b : List ℕ) (end : ℕ) (o o1 : List ℕ) → a ≡ b → Added a 0 end o o1 → (end ≡ length b) × (o1 ≡ b ++ drop end o)
+at-start a b end o o1 e x =
+    let s : end ≡ length a = x .ends ∙ omega arith in
+    let d : 0 + length a ≡ end = omega arith in
+    (s ∙ ap length e, x .holds ∙ ap (λ n. a ++ drop n o) d ∙ ap (λ t. t ++ drop end o) e)
+
+module _ (ws : List ℕ) (n : ℕ) (o o1 : List ℕ) (x : Added ws 0 n o o1) where
+  pub loaded : n ≡ length ws
+  loaded = x .ends ∙ omega arith
+
+  pub front-is : take n o1 ≡ ws
+  front-is = ap (λ l. take n l) (x .holds) ∙ take-at ws (drop (0 + length ws) o) n (sym loaded)
+
+  pub front-length : n ≡ length (take n o1)
+  front-length = loaded ∙ ap length (sym front-is)

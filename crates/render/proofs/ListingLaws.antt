@@ -3,16 +3,14 @@
 --     weaving-roomy                     an output of 8,192 words leaves question 13 out
 --     woven-short                       at most 1,024 lines
 --     refused-text, lines-text          a weaver's answer, as text
---     at-start, text-as                 a text put at 0, and as another
---     front-is, front-length            what was loaded is the front of a buffer
---     loaded-few, listing-is            and is the rule and the script of the input
+--     text-as                           a text as another
+--     loaded-few, listing-is            what was loaded is the rule and the script of the input
 -- Assumes nothing.
 use mathlib.Core.Path.{_≡_, refl, sym, ap, ap₂, _∙_}
 use mathlib.Core.List.{List, _++_}
 use Prim.Native.Nat.{ℕ, zero, suc, _+_, _*_, _≤_, _<_}
 use native.Mathlib.Omega.{arith}
 use lib.ListN.{length, getD, take, drop, List·getD-append}
-use lib.Seq.{take-at}
 use borrow.Author.Tests.{le-leb, leb-true}
 use Rattle.spec.specs.Ascii.{ascii}
 use Rattle.spec.specs.Questions.{Answer, passed, refused, Checked, _then_}
@@ -26,7 +24,7 @@ use Rattle.spec.proofs.WeaverLaws.{length-woven}
 use Rattle.print.specs.Decimal.{newline, number, refusedText}
 use Rattle.render.specs.Text.{lineText, linesText, answerText}
 use Rattle.print.specs.Written.{Added}
-use Rattle.print.proofs.AddedLaws.{each-same}
+use Rattle.print.proofs.AddedLaws.{loaded, front-is, each-same}
 use Rattle.render.specs.Input.{counted}
 use Rattle.render.specs.Listing.{wovenText, listingOf}
 use Rattle.render.proofs.InputLaws.{length-counted}
@@ -104,28 +102,10 @@ module _ (rule bare out : List ℕ) (roomy : 8192 ≤ length out) where
           ap (λ t. ascii "lines " ++ number n newline ++ t) (lines-agree words (woven form32 rule bare) n first-word)
           ∙ ap (λ a. answerText (woven form32 rule bare) a) (e ∙ weaving-roomy)
 
--- a text put at 0
-pub at-start : (a b : List ℕ) (end : ℕ) (o o1 : List ℕ) → a ≡ b → Added a 0 end o o1 → (end ≡ length b) × (o1 ≡ b ++ drop end o)
-at-start a b end o o1 e x =
-    let s : end ≡ length a = x .ends ∙ omega arith in
-    let d : 0 + length a ≡ end = omega arith in
-    (s ∙ ap length e, x .holds ∙ ap (λ n. a ++ drop n o) d ∙ ap (λ t. t ++ drop end o) e)
-
 -- a text as another
 pub text-as : (a b : List ℕ) (end : ℕ) (o o1 : List ℕ) → a ≡ b → (end ≡ length a) × (o1 ≡ a ++ drop end o)
     → (end ≡ length b) × (o1 ≡ b ++ drop end o)
 text-as a b end o o1 e x = (x .0 ∙ ap length e, x .1 ∙ ap (λ t. t ++ drop end o) e)
-
--- what was loaded is the front of a buffer
-module _ (ws : List ℕ) (n : ℕ) (o o1 : List ℕ) (x : Added ws 0 n o o1) where
-  loaded : n ≡ length ws
-  loaded = x .ends ∙ omega arith
-
-  pub front-is : take n o1 ≡ ws
-  front-is = ap (λ l. take n l) (x .holds) ∙ take-at ws (drop (0 + length ws) o) n (sym loaded)
-
-  pub front-length : n ≡ length (take n o1)
-  front-length = loaded ∙ ap length (sym front-is)
 
 pub loaded-few : (most : ℕ) (bytes : List ℕ) (at n : ℕ) (o o1 : List ℕ) → Added (counted most bytes at) 0 n o o1 → n ≤ most
 loaded-few most bytes at n o o1 x =

@@ -1,0 +1,7 @@
+-- What the proofs of the functions cite. No contract cites these files.
+pub mod LastLaws
+pub mod MarkLaws
+pub mod NodeLaws
+pub mod StandLaws
+pub mod ExpectedLaws
+pub mod AnswerLaws

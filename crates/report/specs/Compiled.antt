@@ -27,9 +27,12 @@ textIn bytes = withoutLast (code "\r") (withoutLast newline bytes)
 
 -- ---- the nodes
 
--- a word as eight hexadecimal digits, and a newline
+-- a word as eight hexadecimal digits
+unfoldable pub hexText : ℕ → List ℕ
+hexText w = digits 16 8 w
+
 abbrev pub nodeText : ℕ → List ℕ
-nodeText w = digits 16 8 w ++ newline ∷ []
+nodeText w = hexText w ++ newline ∷ []
 
 unfoldable pub nodesText : List ℕ → List ℕ
 nodesText ws = eachOf (λ k. nodeText (getD ws k 0)) (length ws)
@@ -44,10 +47,14 @@ visible b = cond (leb (code " ") b && leb b (code "~")) b (code "?")
 abbrev pub shownFrom : ℕ → ℕ
 shownFrom i = i - 60
 
+unfoldable pub shownText : List ℕ → (place : ℕ) → List ℕ
+shownText text i = map visible (take 72 (drop (shownFrom i) text)) ++ newline ∷ []
+
+unfoldable pub pointerText : (place : ℕ) → List ℕ
+pointerText i = replicate (i - shownFrom i) space ++ ascii "^\n"
+
 unfoldable pub markText : List ℕ → (place : ℕ) → List ℕ
-markText text i =
-    map visible (take 72 (drop (shownFrom i) text)) ++ newline ∷ []
-    ++ replicate (i - shownFrom i) space ++ code "^" ∷ newline ∷ []
+markText text i = shownText text i ++ pointerText i
 
 -- ---- what may stand at the place
 
@@ -104,9 +111,9 @@ answerText text (refused q i) = refusedText q i ++ reasonText text q i
 
 -- the largest text that the program takes
 abbrev pub mostBytes : ℕ
-mostBytes = 65536
+mostBytes = 65000
 
 unfoldable pub compiledText : (bytes : List ℕ) → List ℕ
 compiledText bytes =
     let text = textIn bytes in
-    cond (leb (length text) mostBytes) (answerText text (texting form32 (form32 .width) text)) (ascii "a text has at most 65536 bytes here\n")
+    cond (leb (length text) mostBytes) (answerText text (texting form32 (form32 .width) text)) (ascii "a text has at most 65000 bytes here\n")

@@ -24,7 +24,7 @@ use Rattle.grammar.specs.Nodes.{size, ruleWords}
 use Rattle.grammar.specs.TextPromise.{TableFor}
 use Rattle.grammar.specs.Texting.{question17, writing, texting, countOf, outputOf}
 use Rattle.grammar.proofs.TableLaws.{length-words}
-use Rattle.grammar.proofs.TextLaws.{writing-in, writing-many, writing-few, text-promise32}
+use Rattle.grammar.proofs.TextLaws.{writing-in, writing-many, writing-few, count-refused, count-passed, text-promise32}
 use Rattle.text.specs.Stacks.{Holds}
 use Rattle.text.specs.Pens.{TableOf}
 use Rattle.rule.specs.Answers.{countedOf}
@@ -133,21 +133,13 @@ module _ (text before after : List ℕ) (r : Counted) (x : Reads text before aft
   abbrev given : Answer (List ℕ)
   given = texting form32 (length before) text
 
-  refused-out : (a : Answer (List ℕ)) (q i : ℕ) → countOf a ≡ refused q i → a ≡ refused q i
-  refused-out (passed ws) q i e = let z : _≡_ {A = ℕ} 0 1 = cc in absurd (omega arith)
-  refused-out (refused p j) q i e = cc
-
-  passed-out : (a : Answer (List ℕ)) (n : ℕ) → countOf a ≡ passed n → (ws : List ℕ) × (a ≡ passed ws) × (n ≡ length ws)
-  passed-out (passed ws) n e = (ws, refl, cc)
-  passed-out (refused p j) n e = let z : _≡_ {A = ℕ} 0 1 = cc in absurd (omega arith)
-
   no : (q i : ℕ) → countedOf r ≡ refused q i → given ≡ refused q i
-  no q i e = refused-out given q i (sym (x .answer) ∙ e)
+  no q i e = count-refused given q i (sym (x .answer) ∙ e)
 
   pub reads-tell : Tells text (countedOf r) after
   reads-tell = record {
     table = λ n e.
-        let (ws, g, l) = passed-out given n (sym (x .answer) ∙ e) in
+        let (ws, g, l) = count-passed given n (sym (x .answer) ∙ e) in
         let (φ, spelled, t, few) = text-promise32 .table text (length before) ws g in
         let o = x .output ∙ ap (λ a. outputOf a before) g in
         (φ, spelled, subst (TableFor form32 φ) (sym (ap₂ take l o ∙ take-append-seam ws _)) t);

@@ -259,7 +259,7 @@ fn may_end(s: Between) -> bool
 }
 
 // Question 16: the first byte that no continuation could follow, or the length where the text ends too soon.
-pub(crate) fn ask_grammar(text: &[u8]) -> Answer
+pub fn ask_grammar(text: &[u8]) -> Answer
     ensures { λ r. ⌜ answerOf r ≡ question16 (now (text .entry)) ⌝ }
 {
     let mut s = wanting(Want::Operand, 0, false);

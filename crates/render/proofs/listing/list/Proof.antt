@@ -1,7 +1,8 @@
 -- `render::listing::list` meets its contract: what was loaded is the front of the buffers (`ListingLaws`). Assumes nothing.
 use native.Mathlib.Omega.{arith}
 use borrow.Author.Needs.{needs}
-use Rattle.render.proofs.ListingLaws.{front-length, loaded-few, listing-is, text-as}
+use Rattle.print.proofs.AddedLaws.{front-length}
+use Rattle.render.proofs.ListingLaws.{loaded-few, listing-is, text-as}
 use Rattle.render.proofs.listing.list.Statement.{statement}
 use Rattle.render.proofs.listing.list.Tie as tie
 

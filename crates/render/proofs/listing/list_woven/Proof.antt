@@ -3,7 +3,8 @@ use mathlib.Core.Path.{sym, ap, _∙_}
 use native.Mathlib.Omega.{arith}
 use borrow.Author.Needs.{needs}
 use Rattle.rule.specs.Answers.{countedOf}
-use Rattle.render.proofs.ListingLaws.{woven-short, refused-text, lines-text, at-start}
+use Rattle.print.proofs.AddedLaws.{at-start}
+use Rattle.render.proofs.ListingLaws.{woven-short, refused-text, lines-text}
 use Rattle.render.proofs.listing.list_woven.Statement.{statement}
 use Rattle.render.proofs.listing.list_woven.Tie as tie
 
