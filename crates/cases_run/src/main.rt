@@ -1,8 +1,8 @@
 // Runs the entry points on requests from standard input, and prints what they answer.
 // A request is words of 32 bits, high byte first: kind, node count, nodes, word count, words. Kind 1 asks about the rule and a history,
 // a number a word; kind 2 about the rule and a script; kinds 3 and 4 run the script, kind 6 weaves it first, and they go on as `runs` says;
-// kind 5 weaves the script, and goes on with the length of the lent output. A 0 in place of a kind is skipped. A count out of the buffers'
-// range ends a block.
+// kind 5 weaves the script, and goes on with the length of the lent output; kinds 7 to 9 are `texts`'. A 0 in place of a kind is skipped.
+// A count out of the buffers' range ends a block.
 use crate::loading::load_numbers;
 use crate::loading::load_words;
 use crate::printing::print_answer;
@@ -11,14 +11,17 @@ use crate::printing::print_numbers;
 use crate::printing::print_refused;
 use crate::printing::say;
 use crate::runs::answer_machine;
+use crate::texts::request_text;
 use crate::weaving::answer_weaving;
 use rule::answer::Verdict;
 use words::word_at;
 ghost use Prim.Native.Nat.{_<_, _≤_};
 
+mod digests;
 mod loading;
 mod printing;
 mod runs;
+mod texts;
 mod weaving;
 
 fn print_verdict(v: Verdict) {
@@ -87,6 +90,9 @@ fn request(s: &[u8], at: usize) -> usize
     let kind = word_at(s, at);
     if kind == 0 {
         return at + 1;
+    }
+    if 7 <= kind {
+        return request_text(s, kind, at);
     }
     let nodes = word_at(s, at + 1) as usize;
     if 64 < nodes {

@@ -2,6 +2,7 @@
 // end, and they are the program's own.
 use libc::STDOUT_FILENO;
 use rule::answer::Answer;
+use rule::answer::Counted;
 
 pub(crate) fn say(text: &[u8]) {
     io::write_all(STDOUT_FILENO, text);
@@ -31,6 +32,14 @@ pub(crate) fn print_answer(a: Answer) {
     match a {
         Answer::Passed => say(b"passed\n"),
         Answer::Refused { question, place } => print_refused(question, place),
+    }
+}
+
+// A refusal, or how many of them there are.
+pub(crate) fn print_counted(name: &[u8], c: Counted) {
+    match c {
+        Counted::Refused { question, place } => print_refused(question, place),
+        Counted::Count(n) => print_named(name, n as u64),
     }
 }
 

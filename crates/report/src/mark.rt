@@ -20,7 +20,11 @@ fn shown_count(length: usize, from: usize) -> usize
     if length <= from {
         return 0;
     }
-    if length - from < 72 { length - from } else { 72 }
+    if length - from < 72 {
+        length - from
+    } else {
+        72
+    }
 }
 
 fn show(b: u8) -> u8

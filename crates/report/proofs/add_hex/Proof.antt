@@ -1,3 +1,4 @@
+-- `report::add_hex` meets its contract. Assumes nothing.
 use lib.ListN.{length}
 use mathlib.Core.Path.{ap}
 use native.Mathlib.Omega.{arith}
@@ -7,32 +8,22 @@ use Rattle.report.proofs.NodeLaws.{hex-text, hex-length}
 use borrow.Author.Needs.{needs}
 use Rattle.report.proofs.add_hex.Statement.{statement}
 use Rattle.report.proofs.add_hex.Tie as tie
-use Rattle.report.proofs.add_hex.Reads as reads
-use Rattle.report.proofs.add_hex.Lts as lts
-use Rattle.io.proofs.hex.Reads as hex-reads
-use Rattle.print.proofs.add_bytes.Reads as add-bytes-reads
 
--- src/lib.rt:45:9
 hex-requires : tie.Need-hex-requires
 hex-requires c κs = search needs
 
--- src/lib.rt:46:15
 array-share-prefix-text : tie.Need-array-share-prefix-text
 array-share-prefix-text c = search needs
 
--- src/lib.rt:46:15
 slice-aggregate-add-bytes : tie.Need-slice-aggregate-add-bytes
 slice-aggregate-add-bytes c = search needs
 
--- src/lib.rt:46:5
 add-bytes-requires : tie.Need-add-bytes-requires
 add-bytes-requires c κs = let e = ap length (hex-text (c .before .before .before .before .before .args .word) _ _ (omega arith) (c .before .before .hex .ensures .1 .0) (c .before .before .hex .ensures .1 .1)) in let n = hex-length (c .before .before .before .before .before .args .word) in let room = c .before .before .before .before .before .pre in omega arith
 
--- src/lib.rt:40:1
 same-length : tie.Need-same-length
 same-length c = search needs
 
--- src/lib.rt:40:1
 returns : tie.Need-returns
 returns c = filled-as 8 (let n = hex-length (c .before .before .before .before .before .before .before .before .args .word) in omega arith) (added-as _ (hexText (c .before .before .before .before .before .before .before .before .args .word)) _ _ _ _ (hex-text (c .before .before .before .before .before .before .before .before .args .word) _ _ (omega arith) (c .before .before .before .before .before .hex .ensures .1 .0) (c .before .before .before .before .before .hex .ensures .1 .1)) (c .before .before .add-bytes .ensures))
 

@@ -1,30 +1,22 @@
+-- `report::add_node` meets its contract. Assumes nothing.
 use native.Mathlib.Omega.{arith}
 use Rattle.print.proofs.AddedLaws.{filled-as, filled-then, filled-room}
 use borrow.Author.Needs.{needs}
 use Rattle.report.proofs.add_node.Statement.{statement}
 use Rattle.report.proofs.add_node.Tie as tie
-use Rattle.report.proofs.add_node.Reads as reads
-use Rattle.report.proofs.add_node.Lts as lts
-use Rattle.print.proofs.add_bytes.Reads as add-bytes-reads
-use Rattle.report.proofs.add_hex.Reads as add-hex-reads
 
--- src/lib.rt:53:9
 add-hex-requires : tie.Need-add-hex-requires
 add-hex-requires c κs = search needs
 
--- src/lib.rt:54:15
 slice-aggregate-add-bytes : tie.Need-slice-aggregate-add-bytes
 slice-aggregate-add-bytes c = search needs
 
--- src/lib.rt:54:5
 add-bytes-requires : tie.Need-add-bytes-requires
 add-bytes-requires c κs = let room = c .before .before .before .before .before .before .before .pre in filled-room 1 (omega arith) (c .before .before .before .before .add-hex .ensures)
 
--- src/lib.rt:49:1
 same-length : tie.Need-same-length
 same-length c = search needs
 
--- src/lib.rt:49:1
 returns : tie.Need-returns
 returns c = filled-then (omega arith) (c .before .before .before .before .before .before .before .add-hex .ensures) (filled-as 1 (omega arith) (c .before .before .add-bytes .ensures))
 

@@ -1,3 +1,4 @@
+-- `report::add_nodes` meets its contract: the nodes before i, one after another. Assumes nothing.
 use Prim.Native.Nat.{_-_, _*_, _≤_}
 use lib.ListN.{length}
 use mathlib.Core.Path.{_≡_, ap, _∙_}
@@ -8,9 +9,6 @@ use Rattle.report.proofs.NodeLaws.{nodeAt, nodes-all}
 use borrow.Author.Needs.{needs}
 use Rattle.report.proofs.add_nodes.Statement.{statement}
 use Rattle.report.proofs.add_nodes.Tie as tie
-use Rattle.report.proofs.add_nodes.Reads as reads
-use Rattle.report.proofs.add_nodes.Lts as lts
-use Rattle.report.proofs.add_node.Reads as add-node-reads
 
 abbrev Inv-loop : tie.InvT-loop
 Inv-loop words n out₀ end₀ i₀ out end i =
@@ -19,39 +17,30 @@ Inv-loop words n out₀ end₀ i₀ out end i =
 abbrev μ-loop : tie.MeasureT-loop
 μ-loop words n out₀ end₀ i₀ out end i = n - i
 
--- src/lib.rt:64:5
 loop-holds : tie.Need-loop-holds Inv-loop μ-loop
 loop-holds c = (search needs, search needs, search needs, search needs, each-start (nodeAt (c .before .before .args .words .now)) 9 0 (c .before .before .args .out .now))
 
--- src/lib.rt:65:24
 mul-add-node : tie.Need-mul-add-node Inv-loop μ-loop
 mul-add-node c = search needs
 
--- src/lib.rt:65:24
 shared-slice-read-add-node : tie.Need-shared-slice-read-add-node Inv-loop μ-loop
 shared-slice-read-add-node c = search needs
 
--- src/lib.rt:65:9
 add-node-requires : tie.Need-add-node-requires Inv-loop μ-loop
 add-node-requires c κs = filled-room 9 (omega arith) (c .before .before .before .loop .inv .4)
 
--- src/lib.rt:66:9
 add-i : tie.Need-add-i Inv-loop μ-loop
 add-i c = search needs
 
--- src/lib.rt:64:5
 loop-less : tie.Need-loop-less Inv-loop μ-loop
 loop-less c = search needs
 
--- src/lib.rt:64:5
 loop-again : tie.Need-loop-again Inv-loop μ-loop
 loop-again c = (search needs, search needs, search needs, c .before .before .add-node .kept .1 .1 .0 ∙ c .before .before .before .before .before .before .loop .inv .3, each-next (nodeAt (c .before .before .before .before .before .before .before .before .before .args .words .now)) 9 0 (c .before .before .before .before .before .before .before .before .before .args .out .now) (c .before .before .before .before .before .before .loop .i) (c .before .before .before .before .before .before .loop .end) (c .before .before .add-node .result) (c .before .before .before .before .before .before .loop .out) (c .before .before .add-node .last .1 .1 .0) (omega arith) (c .before .before .before .before .before .before .loop .inv .4) (c .before .before .add-node .ensures))
 
--- src/lib.rt:58:1
 same-length : tie.Need-same-length Inv-loop μ-loop
 same-length c = search needs
 
--- src/lib.rt:58:1
 returns : tie.Need-returns Inv-loop μ-loop
 returns c = let all : c .before .loop .i ≡ c .before .before .before .before .args .n = omega arith in added-as _ _ _ _ _ _ (ap (eachOf (nodeAt (c .before .before .before .before .args .words .now))) all ∙ nodes-all (c .before .before .before .before .args .words .now) (c .before .before .before .before .args .n) (c .before .loop .inv .0)) (c .before .loop .inv .4 .added)
 

@@ -1,3 +1,4 @@
+-- `report::put_answer` meets its contract, by the answer of `read_text`. Assumes nothing.
 use mathlib.Core.Path.{sym, ap, _∙_}
 use native.Mathlib.Omega.{arith}
 use Rattle.rule.specs.Answers.{countedOf}
@@ -6,58 +7,40 @@ use Rattle.report.proofs.AnswerLaws.{answer-refused, answer-few, answer
 use borrow.Author.Needs.{needs}
 use Rattle.report.proofs.put_answer.Statement.{statement}
 use Rattle.report.proofs.put_answer.Tie as tie
-use Rattle.report.proofs.put_answer.Reads as reads
-use Rattle.report.proofs.put_answer.Lts as lts
-use Rattle.print.proofs.add_refused.Reads as add-refused-reads
-use Rattle.report.proofs.add_nodes.Reads as add-nodes-reads
-use Rattle.report.proofs.add_reason.Reads as add-reason-reads
-use Rattle.text.proofs.read_text.Reads as read-text-reads
 
--- src/lib.rt:97:32
 slice-aggregate-read-text : tie.Need-slice-aggregate-read-text
 slice-aggregate-read-text c = search needs
 
--- src/lib.rt:97:9
 read-text-requires : tie.Need-read-text-requires
 read-text-requires c κs = search needs
 
--- src/lib.rt:99:28
 enum-known-read : tie.Need-enum-known-read
 enum-known-read c = search needs
 
--- src/lib.rt:100:17
 add-refused-requires : tie.Need-add-refused-requires
 add-refused-requires c κs = search needs
 
--- src/lib.rt:101:13
 add-reason-requires : tie.Need-add-reason-requires
 add-reason-requires c κs = search needs
 
--- src/lib.rt:103:24
 enum-known-read-2 : tie.Need-enum-known-read-2
 enum-known-read-2 c = search needs
 
--- src/lib.rt:103:40
 slice-aggregate-add-nodes : tie.Need-slice-aggregate-add-nodes
 slice-aggregate-add-nodes c = search needs
 
--- src/lib.rt:103:30
 add-nodes-requires : tie.Need-add-nodes-requires
 add-nodes-requires c κs = let few = answer-few (c .before .before .before .before .before .before .before .before .before .before .args .text .now) _ (sym (ap countedOf (c .before .before .before .read2 .given .1)) ∙ c .before .before .before .before .before .before .read-text .ensures .0) in let kept = c .before .before .before .before .before .before .read-text .kept .1 .0 in let room = c .before .before .before .before .before .before .before .before .before .before .pre .1 in (omega arith, omega arith)
 
--- src/lib.rt:92:1
 same-length : tie.Need-same-length
 same-length c = search needs
 
--- src/lib.rt:92:1
 returns : tie.Need-returns
 returns c = added-as _ _ _ _ _ _ (answer-refused (c .before .before .before .before .before .before .before .before .before .before .before .before .before .before .before .before .args .text .now) _ _ (sym (ap countedOf (c .before .before .before .before .before .before .before .before .before .read .given .1)) ∙ c .before .before .before .before .before .before .before .before .before .before .before .before .read-text .ensures .0)) (filled-last (omega arith) (c .before .before .before .before .before .before .add-refused .ensures) (c .before .before .add-reason .ensures))
 
--- src/lib.rt:92:1
 same-length-2 : tie.Need-same-length-2
 same-length-2 c = search needs
 
--- src/lib.rt:92:1
 returns-2 : tie.Need-returns-2
 returns-2 c = added-as _ _ _ _ _ _ (answer-nodes (c .before .before .before .before .before .before .before .before .before .before .before .before .before .args .text .now) _ (sym (ap countedOf (c .before .before .before .before .before .before .read2 .given .1)) ∙ c .before .before .before .before .before .before .before .before .before .read-text .ensures .0) _ _ (c .before .before .before .before .before .before .before .before .before .read-text .ensures .1 .0)) (c .before .before .add-nodes .ensures)
 

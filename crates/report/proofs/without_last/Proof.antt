@@ -1,3 +1,4 @@
+-- `report::without_last` meets its contract. Assumes nothing.
 use native.Mathlib.Omega.{arith}
 use lib.ListN.{take}
 use mathlib.Core.List.{[]}
@@ -7,30 +8,22 @@ use Rattle.report.proofs.LastLaws.{last-none, last-same, last-other}
 use borrow.Author.Needs.{needs}
 use Rattle.report.proofs.without_last.Statement.{statement}
 use Rattle.report.proofs.without_last.Tie as tie
-use Rattle.report.proofs.without_last.Reads as reads
-use Rattle.report.proofs.without_last.Lts as lts
 
--- src/lib.rt:27:9
 returns : tie.Need-returns
 returns c = (omega arith, let z : c .before .args .n ≡ 0 = omega arith in subst (λ m. [] ≡ withoutLast (c .before .args .byte) (take m (c .before .args .bytes .now))) (sym z) (last-none (c .before .args .byte)))
 
--- src/lib.rt:29:14
 sub-if2 : tie.Need-sub-if2
 sub-if2 c = search needs
 
--- src/lib.rt:29:8
 shared-slice-read-if2 : tie.Need-shared-slice-read-if2
 shared-slice-read-if2 c = search needs
 
--- src/lib.rt:29:31
 sub-result : tie.Need-sub-result
 sub-result c = search needs
 
--- src/lib.rt:22:1
 returns-2 : tie.Need-returns-2
 returns-2 c = (omega arith, last-same (c .before .before .before .args .byte) (c .before .before .before .args .bytes .now) (c .before .before .before .args .n) (omega arith) (c .before .before .before .pre) (c .if2 .taken))
 
--- src/lib.rt:22:1
 returns-3 : tie.Need-returns-3
 returns-3 c = (omega arith, last-other (c .before .before .before .args .byte) (c .before .before .before .args .bytes .now) (c .before .before .before .args .n) (omega arith) (c .before .before .before .pre) (c .if2 .left))
 

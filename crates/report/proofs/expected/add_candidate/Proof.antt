@@ -1,388 +1,295 @@
+-- `report::expected::add_candidate` meets its contract: the table of a match is `candidates`. Assumes nothing.
 use native.Mathlib.Omega.{arith}
-use Rattle.report.proofs.ExpectedLaws.{above, candidate-count}
+use Rattle.report.proofs.ExpectedLaws.{above, candidate-count, item-at}
 use Rattle.report.specs.Compiled.{candidates}
-use Rattle.report.proofs.ExpectedLaws.{item-at}
 use borrow.Author.Needs.{needs}
 use Rattle.report.proofs.expected.add_candidate.Statement.{statement}
 use Rattle.report.proofs.expected.add_candidate.Tie as tie
-use Rattle.report.proofs.expected.add_candidate.Reads as reads
-use Rattle.report.proofs.expected.add_candidate.Lts as lts
-use Rattle.report.proofs.expected.add_item.Reads as add-item-reads
 
--- src/expected.rt:64:36
 slice-aggregate-add-item : tie.Need-slice-aggregate-add-item
 slice-aggregate-add-item c = search needs
 
--- src/expected.rt:64:45
 slice-aggregate-add-item-2 : tie.Need-slice-aggregate-add-item-2
 slice-aggregate-add-item-2 c = search needs
 
--- src/expected.rt:64:14
 add-item-requires : tie.Need-add-item-requires
 add-item-requires c κs = search needs
 
--- src/expected.rt:65:36
 slice-aggregate-add-item-3 : tie.Need-slice-aggregate-add-item-3
 slice-aggregate-add-item-3 c = search needs
 
--- src/expected.rt:65:46
 slice-aggregate-add-item-4 : tie.Need-slice-aggregate-add-item-4
 slice-aggregate-add-item-4 c = search needs
 
--- src/expected.rt:65:14
 add-item-requires-2 : tie.Need-add-item-requires-2
 add-item-requires-2 c κs = search needs
 
--- src/expected.rt:66:36
 slice-aggregate-add-item-5 : tie.Need-slice-aggregate-add-item-5
 slice-aggregate-add-item-5 c = search needs
 
--- src/expected.rt:66:42
 slice-aggregate-add-item-6 : tie.Need-slice-aggregate-add-item-6
 slice-aggregate-add-item-6 c = search needs
 
--- src/expected.rt:66:14
 add-item-requires-3 : tie.Need-add-item-requires-3
 add-item-requires-3 c κs = search needs
 
--- src/expected.rt:67:36
 slice-aggregate-add-item-7 : tie.Need-slice-aggregate-add-item-7
 slice-aggregate-add-item-7 c = search needs
 
--- src/expected.rt:67:44
 slice-aggregate-add-item-8 : tie.Need-slice-aggregate-add-item-8
 slice-aggregate-add-item-8 c = search needs
 
--- src/expected.rt:67:14
 add-item-requires-4 : tie.Need-add-item-requires-4
 add-item-requires-4 c κs = search needs
 
--- src/expected.rt:68:36
 slice-aggregate-add-item-9 : tie.Need-slice-aggregate-add-item-9
 slice-aggregate-add-item-9 c = search needs
 
--- src/expected.rt:68:46
 slice-aggregate-add-item-10 : tie.Need-slice-aggregate-add-item-10
 slice-aggregate-add-item-10 c = search needs
 
--- src/expected.rt:68:14
 add-item-requires-5 : tie.Need-add-item-requires-5
 add-item-requires-5 c κs = search needs
 
--- src/expected.rt:69:36
 slice-aggregate-add-item-11 : tie.Need-slice-aggregate-add-item-11
 slice-aggregate-add-item-11 c = search needs
 
--- src/expected.rt:69:45
 slice-aggregate-add-item-12 : tie.Need-slice-aggregate-add-item-12
 slice-aggregate-add-item-12 c = search needs
 
--- src/expected.rt:69:14
 add-item-requires-6 : tie.Need-add-item-requires-6
 add-item-requires-6 c κs = search needs
 
--- src/expected.rt:70:36
 slice-aggregate-add-item-13 : tie.Need-slice-aggregate-add-item-13
 slice-aggregate-add-item-13 c = search needs
 
--- src/expected.rt:70:45
 slice-aggregate-add-item-14 : tie.Need-slice-aggregate-add-item-14
 slice-aggregate-add-item-14 c = search needs
 
--- src/expected.rt:70:14
 add-item-requires-7 : tie.Need-add-item-requires-7
 add-item-requires-7 c κs = search needs
 
--- src/expected.rt:71:36
 slice-aggregate-add-item-15 : tie.Need-slice-aggregate-add-item-15
 slice-aggregate-add-item-15 c = search needs
 
--- src/expected.rt:71:46
 slice-aggregate-add-item-16 : tie.Need-slice-aggregate-add-item-16
 slice-aggregate-add-item-16 c = search needs
 
--- src/expected.rt:71:14
 add-item-requires-8 : tie.Need-add-item-requires-8
 add-item-requires-8 c κs = search needs
 
--- src/expected.rt:72:36
 slice-aggregate-add-item-17 : tie.Need-slice-aggregate-add-item-17
 slice-aggregate-add-item-17 c = search needs
 
--- src/expected.rt:72:46
 slice-aggregate-add-item-18 : tie.Need-slice-aggregate-add-item-18
 slice-aggregate-add-item-18 c = search needs
 
--- src/expected.rt:72:14
 add-item-requires-9 : tie.Need-add-item-requires-9
 add-item-requires-9 c κs = search needs
 
--- src/expected.rt:73:36
 slice-aggregate-add-item-19 : tie.Need-slice-aggregate-add-item-19
 slice-aggregate-add-item-19 c = search needs
 
--- src/expected.rt:73:44
 slice-aggregate-add-item-20 : tie.Need-slice-aggregate-add-item-20
 slice-aggregate-add-item-20 c = search needs
 
--- src/expected.rt:73:14
 add-item-requires-10 : tie.Need-add-item-requires-10
 add-item-requires-10 c κs = search needs
 
--- src/expected.rt:74:37
 slice-aggregate-add-item-21 : tie.Need-slice-aggregate-add-item-21
 slice-aggregate-add-item-21 c = search needs
 
--- src/expected.rt:74:44
 slice-aggregate-add-item-22 : tie.Need-slice-aggregate-add-item-22
 slice-aggregate-add-item-22 c = search needs
 
--- src/expected.rt:74:15
 add-item-requires-11 : tie.Need-add-item-requires-11
 add-item-requires-11 c κs = search needs
 
--- src/expected.rt:75:37
 slice-aggregate-add-item-23 : tie.Need-slice-aggregate-add-item-23
 slice-aggregate-add-item-23 c = search needs
 
--- src/expected.rt:75:49
 slice-aggregate-add-item-24 : tie.Need-slice-aggregate-add-item-24
 slice-aggregate-add-item-24 c = search needs
 
--- src/expected.rt:75:15
 add-item-requires-12 : tie.Need-add-item-requires-12
 add-item-requires-12 c κs = search needs
 
--- src/expected.rt:76:37
 slice-aggregate-add-item-25 : tie.Need-slice-aggregate-add-item-25
 slice-aggregate-add-item-25 c = search needs
 
--- src/expected.rt:76:43
 slice-aggregate-add-item-26 : tie.Need-slice-aggregate-add-item-26
 slice-aggregate-add-item-26 c = search needs
 
--- src/expected.rt:76:15
 add-item-requires-13 : tie.Need-add-item-requires-13
 add-item-requires-13 c κs = search needs
 
--- src/expected.rt:77:37
 slice-aggregate-add-item-27 : tie.Need-slice-aggregate-add-item-27
 slice-aggregate-add-item-27 c = search needs
 
--- src/expected.rt:77:43
 slice-aggregate-add-item-28 : tie.Need-slice-aggregate-add-item-28
 slice-aggregate-add-item-28 c = search needs
 
--- src/expected.rt:77:15
 add-item-requires-14 : tie.Need-add-item-requires-14
 add-item-requires-14 c κs = search needs
 
--- src/expected.rt:78:37
 slice-aggregate-add-item-29 : tie.Need-slice-aggregate-add-item-29
 slice-aggregate-add-item-29 c = search needs
 
--- src/expected.rt:78:43
 slice-aggregate-add-item-30 : tie.Need-slice-aggregate-add-item-30
 slice-aggregate-add-item-30 c = search needs
 
--- src/expected.rt:78:15
 add-item-requires-15 : tie.Need-add-item-requires-15
 add-item-requires-15 c κs = search needs
 
--- src/expected.rt:79:37
 slice-aggregate-add-item-31 : tie.Need-slice-aggregate-add-item-31
 slice-aggregate-add-item-31 c = search needs
 
--- src/expected.rt:79:43
 slice-aggregate-add-item-32 : tie.Need-slice-aggregate-add-item-32
 slice-aggregate-add-item-32 c = search needs
 
--- src/expected.rt:79:15
 add-item-requires-16 : tie.Need-add-item-requires-16
 add-item-requires-16 c κs = search needs
 
--- src/expected.rt:80:37
 slice-aggregate-add-item-33 : tie.Need-slice-aggregate-add-item-33
 slice-aggregate-add-item-33 c = search needs
 
--- src/expected.rt:80:43
 slice-aggregate-add-item-34 : tie.Need-slice-aggregate-add-item-34
 slice-aggregate-add-item-34 c = search needs
 
--- src/expected.rt:80:15
 add-item-requires-17 : tie.Need-add-item-requires-17
 add-item-requires-17 c κs = search needs
 
--- src/expected.rt:81:36
 slice-aggregate-add-item-35 : tie.Need-slice-aggregate-add-item-35
 slice-aggregate-add-item-35 c = search needs
 
--- src/expected.rt:81:42
 slice-aggregate-add-item-36 : tie.Need-slice-aggregate-add-item-36
 slice-aggregate-add-item-36 c = search needs
 
--- src/expected.rt:81:14
 add-item-requires-18 : tie.Need-add-item-requires-18
 add-item-requires-18 c κs = search needs
 
--- src/expected.rt:59:1
 same-length : tie.Need-same-length
 same-length c = search needs
 
--- src/expected.rt:59:1
 returns : tie.Need-returns
 unfolding candidates
 returns c = item-at (c .before .before .before .before .before .before .before .before .before .args .text .now) (c .before .before .before .before .before .before .before .before .before .args .place) (c .before .before .before .before .before .before .before .before .before .args .k) 0 (c .before .before .before .before .before .before .match .keys1) (c .before .before .add-item .ensures)
 
--- src/expected.rt:59:1
 same-length-2 : tie.Need-same-length-2
 same-length-2 c = search needs
 
--- src/expected.rt:59:1
 returns-2 : tie.Need-returns-2
 unfolding candidates
 returns-2 c = item-at (c .before .before .before .before .before .before .before .before .before .args .text .now) (c .before .before .before .before .before .before .before .before .before .args .place) (c .before .before .before .before .before .before .before .before .before .args .k) 1 (c .before .before .before .before .before .before .match .keys2) (c .before .before .add-item2 .ensures)
 
--- src/expected.rt:59:1
 same-length-3 : tie.Need-same-length-3
 same-length-3 c = search needs
 
--- src/expected.rt:59:1
 returns-3 : tie.Need-returns-3
 unfolding candidates
 returns-3 c = item-at (c .before .before .before .before .before .before .before .before .before .args .text .now) (c .before .before .before .before .before .before .before .before .before .args .place) (c .before .before .before .before .before .before .before .before .before .args .k) 2 (c .before .before .before .before .before .before .match .keys3) (c .before .before .add-item3 .ensures)
 
--- src/expected.rt:59:1
 same-length-4 : tie.Need-same-length-4
 same-length-4 c = search needs
 
--- src/expected.rt:59:1
 returns-4 : tie.Need-returns-4
 unfolding candidates
 returns-4 c = item-at (c .before .before .before .before .before .before .before .before .before .args .text .now) (c .before .before .before .before .before .before .before .before .before .args .place) (c .before .before .before .before .before .before .before .before .before .args .k) 3 (c .before .before .before .before .before .before .match .keys4) (c .before .before .add-item4 .ensures)
 
--- src/expected.rt:59:1
 same-length-5 : tie.Need-same-length-5
 same-length-5 c = search needs
 
--- src/expected.rt:59:1
 returns-5 : tie.Need-returns-5
 unfolding candidates
 returns-5 c = item-at (c .before .before .before .before .before .before .before .before .before .args .text .now) (c .before .before .before .before .before .before .before .before .before .args .place) (c .before .before .before .before .before .before .before .before .before .args .k) 4 (c .before .before .before .before .before .before .match .keys5) (c .before .before .add-item5 .ensures)
 
--- src/expected.rt:59:1
 same-length-6 : tie.Need-same-length-6
 same-length-6 c = search needs
 
--- src/expected.rt:59:1
 returns-6 : tie.Need-returns-6
 unfolding candidates
 returns-6 c = item-at (c .before .before .before .before .before .before .before .before .before .args .text .now) (c .before .before .before .before .before .before .before .before .before .args .place) (c .before .before .before .before .before .before .before .before .before .args .k) 5 (c .before .before .before .before .before .before .match .keys6) (c .before .before .add-item6 .ensures)
 
--- src/expected.rt:59:1
 same-length-7 : tie.Need-same-length-7
 same-length-7 c = search needs
 
--- src/expected.rt:59:1
 returns-7 : tie.Need-returns-7
 unfolding candidates
 returns-7 c = item-at (c .before .before .before .before .before .before .before .before .before .args .text .now) (c .before .before .before .before .before .before .before .before .before .args .place) (c .before .before .before .before .before .before .before .before .before .args .k) 6 (c .before .before .before .before .before .before .match .keys7) (c .before .before .add-item7 .ensures)
 
--- src/expected.rt:59:1
 same-length-8 : tie.Need-same-length-8
 same-length-8 c = search needs
 
--- src/expected.rt:59:1
 returns-8 : tie.Need-returns-8
 unfolding candidates
 returns-8 c = item-at (c .before .before .before .before .before .before .before .before .before .args .text .now) (c .before .before .before .before .before .before .before .before .before .args .place) (c .before .before .before .before .before .before .before .before .before .args .k) 7 (c .before .before .before .before .before .before .match .keys8) (c .before .before .add-item8 .ensures)
 
--- src/expected.rt:59:1
 same-length-9 : tie.Need-same-length-9
 same-length-9 c = search needs
 
--- src/expected.rt:59:1
 returns-9 : tie.Need-returns-9
 unfolding candidates
 returns-9 c = item-at (c .before .before .before .before .before .before .before .before .before .args .text .now) (c .before .before .before .before .before .before .before .before .before .args .place) (c .before .before .before .before .before .before .before .before .before .args .k) 8 (c .before .before .before .before .before .before .match .keys9) (c .before .before .add-item9 .ensures)
 
--- src/expected.rt:59:1
 same-length-10 : tie.Need-same-length-10
 same-length-10 c = search needs
 
--- src/expected.rt:59:1
 returns-10 : tie.Need-returns-10
 unfolding candidates
 returns-10 c = item-at (c .before .before .before .before .before .before .before .before .before .args .text .now) (c .before .before .before .before .before .before .before .before .before .args .place) (c .before .before .before .before .before .before .before .before .before .args .k) 9 (c .before .before .before .before .before .before .match .keys10) (c .before .before .add-item10 .ensures)
 
--- src/expected.rt:59:1
 same-length-11 : tie.Need-same-length-11
 same-length-11 c = search needs
 
--- src/expected.rt:59:1
 returns-11 : tie.Need-returns-11
 unfolding candidates
 returns-11 c = item-at (c .before .before .before .before .before .before .before .before .before .args .text .now) (c .before .before .before .before .before .before .before .before .before .args .place) (c .before .before .before .before .before .before .before .before .before .args .k) 10 (c .before .before .before .before .before .before .match .keys11) (c .before .before .add-item11 .ensures)
 
--- src/expected.rt:59:1
 same-length-12 : tie.Need-same-length-12
 same-length-12 c = search needs
 
--- src/expected.rt:59:1
 returns-12 : tie.Need-returns-12
 unfolding candidates
 returns-12 c = item-at (c .before .before .before .before .before .before .before .before .before .args .text .now) (c .before .before .before .before .before .before .before .before .before .args .place) (c .before .before .before .before .before .before .before .before .before .args .k) 11 (c .before .before .before .before .before .before .match .keys12) (c .before .before .add-item12 .ensures)
 
--- src/expected.rt:59:1
 same-length-13 : tie.Need-same-length-13
 same-length-13 c = search needs
 
--- src/expected.rt:59:1
 returns-13 : tie.Need-returns-13
 unfolding candidates
 returns-13 c = item-at (c .before .before .before .before .before .before .before .before .before .args .text .now) (c .before .before .before .before .before .before .before .before .before .args .place) (c .before .before .before .before .before .before .before .before .before .args .k) 12 (c .before .before .before .before .before .before .match .keys13) (c .before .before .add-item13 .ensures)
 
--- src/expected.rt:59:1
 same-length-14 : tie.Need-same-length-14
 same-length-14 c = search needs
 
--- src/expected.rt:59:1
 returns-14 : tie.Need-returns-14
 unfolding candidates
 returns-14 c = item-at (c .before .before .before .before .before .before .before .before .before .args .text .now) (c .before .before .before .before .before .before .before .before .before .args .place) (c .before .before .before .before .before .before .before .before .before .args .k) 13 (c .before .before .before .before .before .before .match .keys14) (c .before .before .add-item14 .ensures)
 
--- src/expected.rt:59:1
 same-length-15 : tie.Need-same-length-15
 same-length-15 c = search needs
 
--- src/expected.rt:59:1
 returns-15 : tie.Need-returns-15
 unfolding candidates
 returns-15 c = item-at (c .before .before .before .before .before .before .before .before .before .args .text .now) (c .before .before .before .before .before .before .before .before .before .args .place) (c .before .before .before .before .before .before .before .before .before .args .k) 14 (c .before .before .before .before .before .before .match .keys15) (c .before .before .add-item15 .ensures)
 
--- src/expected.rt:59:1
 same-length-16 : tie.Need-same-length-16
 same-length-16 c = search needs
 
--- src/expected.rt:59:1
 returns-16 : tie.Need-returns-16
 unfolding candidates
 returns-16 c = item-at (c .before .before .before .before .before .before .before .before .before .args .text .now) (c .before .before .before .before .before .before .before .before .before .args .place) (c .before .before .before .before .before .before .before .before .before .args .k) 15 (c .before .before .before .before .before .before .match .keys16) (c .before .before .add-item16 .ensures)
 
--- src/expected.rt:59:1
 same-length-17 : tie.Need-same-length-17
 same-length-17 c = search needs
 
--- src/expected.rt:59:1
 returns-17 : tie.Need-returns-17
 unfolding candidates
 returns-17 c = item-at (c .before .before .before .before .before .before .before .before .before .args .text .now) (c .before .before .before .before .before .before .before .before .before .args .place) (c .before .before .before .before .before .before .before .before .before .args .k) 16 (c .before .before .before .before .before .before .match .keys17) (c .before .before .add-item17 .ensures)
 
--- src/expected.rt:59:1
 same-length-18 : tie.Need-same-length-18
 same-length-18 c = search needs
 
--- src/expected.rt:59:1
 returns-18 : tie.Need-returns-18
 unfolding candidates
 returns-18 c = let a = above (c .before .before .before .before .before .before .before .before .before .args .k) 16 (above (c .before .before .before .before .before .before .before .before .before .args .k) 15 (above (c .before .before .before .before .before .before .before .before .before .args .k) 14 (above (c .before .before .before .before .before .before .before .before .before .args .k) 13 (above (c .before .before .before .before .before .before .before .before .before .args .k) 12 (above (c .before .before .before .before .before .before .before .before .before .args .k) 11 (above (c .before .before .before .before .before .before .before .before .before .args .k) 10 (above (c .before .before .before .before .before .before .before .before .before .args .k) 9 (above (c .before .before .before .before .before .before .before .before .before .args .k) 8 (above (c .before .before .before .before .before .before .before .before .before .args .k) 7 (above (c .before .before .before .before .before .before .before .before .before .args .k) 6 (above (c .before .before .before .before .before .before .before .before .before .args .k) 5 (above (c .before .before .before .before .before .before .before .before .before .args .k) 4 (above (c .before .before .before .before .before .before .before .before .before .args .k) 3 (above (c .before .before .before .before .before .before .before .before .before .args .k) 2 (above (c .before .before .before .before .before .before .before .before .before .args .k) 1 (above (c .before .before .before .before .before .before .before .before .before .args .k) 0 (omega arith) (c .before .before .before .before .before .before .match .rest .0 .0 .0 .0 .0 .0 .0 .0 .0 .0 .0 .0 .0 .0 .0 .0 .1)) (c .before .before .before .before .before .before .match .rest .0 .0 .0 .0 .0 .0 .0 .0 .0 .0 .0 .0 .0 .0 .0 .1)) (c .before .before .before .before .before .before .match .rest .0 .0 .0 .0 .0 .0 .0 .0 .0 .0 .0 .0 .0 .0 .1)) (c .before .before .before .before .before .before .match .rest .0 .0 .0 .0 .0 .0 .0 .0 .0 .0 .0 .0 .0 .1)) (c .before .before .before .before .before .before .match .rest .0 .0 .0 .0 .0 .0 .0 .0 .0 .0 .0 .0 .1)) (c .before .before .before .before .before .before .match .rest .0 .0 .0 .0 .0 .0 .0 .0 .0 .0 .0 .1)) (c .before .before .before .before .before .before .match .rest .0 .0 .0 .0 .0 .0 .0 .0 .0 .0 .1)) (c .before .before .before .before .before .before .match .rest .0 .0 .0 .0 .0 .0 .0 .0 .0 .1)) (c .before .before .before .before .before .before .match .rest .0 .0 .0 .0 .0 .0 .0 .0 .1)) (c .before .before .before .before .before .before .match .rest .0 .0 .0 .0 .0 .0 .0 .1)) (c .before .before .before .before .before .before .match .rest .0 .0 .0 .0 .0 .0 .1)) (c .before .before .before .before .before .before .match .rest .0 .0 .0 .0 .0 .1)) (c .before .before .before .before .before .before .match .rest .0 .0 .0 .0 .1)) (c .before .before .before .before .before .before .match .rest .0 .0 .0 .1)) (c .before .before .before .before .before .before .match .rest .0 .0 .1)) (c .before .before .before .before .before .before .match .rest .0 .1)) (c .before .before .before .before .before .before .match .rest .1) in let b = c .before .before .before .before .before .before .before .before .before .pre .1 in let n = candidate-count in item-at (c .before .before .before .before .before .before .before .before .before .args .text .now) (c .before .before .before .before .before .before .before .before .before .args .place) (c .before .before .before .before .before .before .before .before .before .args .k) 17 (omega arith) (c .before .before .add-item18 .ensures)

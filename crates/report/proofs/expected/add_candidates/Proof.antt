@@ -1,3 +1,4 @@
+-- `report::expected::add_candidates` meets its contract: the candidates before k, one after another. Assumes nothing.
 use Prim.Native.Nat.{_+_, _-_, _*_, _≤_}
 use lib.ListN.{length}
 use mathlib.Core.Path.{_≡_, _∙_}
@@ -9,9 +10,6 @@ use Rattle.report.proofs.ExpectedLaws.{candidate-count, items-start, it
 use borrow.Author.Needs.{needs}
 use Rattle.report.proofs.expected.add_candidates.Statement.{statement}
 use Rattle.report.proofs.expected.add_candidates.Tie as tie
-use Rattle.report.proofs.expected.add_candidates.Reads as reads
-use Rattle.report.proofs.expected.add_candidates.Lts as lts
-use Rattle.report.proofs.expected.add_candidate.Reads as add-candidate-reads
 
 abbrev Inv-loop : tie.InvT-loop
 Inv-loop text place at out₀ end₀ k₀ out end k =
@@ -20,31 +18,24 @@ Inv-loop text place at out₀ end₀ k₀ out end k =
 abbrev μ-loop : tie.MeasureT-loop
 μ-loop text place at out₀ end₀ k₀ out end k = 18 - k
 
--- src/expected.rt:91:5
 loop-holds : tie.Need-loop-holds Inv-loop μ-loop
 loop-holds c = (search needs, search needs, search needs, search needs, items-start (c .before .before .args .text .now) (c .before .before .args .place) (c .before .before .args .at) (c .before .before .args .out .now))
 
--- src/expected.rt:92:9
 add-candidate-requires : tie.Need-add-candidate-requires Inv-loop μ-loop
 add-candidate-requires c κs = let n = candidate-count in (search needs, omega arith, filled-room 9 (omega arith) (c .before .before .loop .inv .4))
 
--- src/expected.rt:93:9
 add-k : tie.Need-add-k Inv-loop μ-loop
 add-k c = search needs
 
--- src/expected.rt:91:5
 loop-less : tie.Need-loop-less Inv-loop μ-loop
 loop-less c = search needs
 
--- src/expected.rt:91:5
 loop-again : tie.Need-loop-again Inv-loop μ-loop
 loop-again c = (search needs, search needs, search needs, c .before .before .add-candidate .kept .1 .1 .1 .1 .0 ∙ c .before .before .before .before .before .loop .inv .3, items-next (c .before .before .before .before .before .before .before .before .args .text .now) (c .before .before .before .before .before .before .before .before .args .place) (c .before .before .before .before .before .before .before .before .args .at) (c .before .before .before .before .before .before .before .before .args .out .now) (c .before .before .before .before .before .loop .k) (c .before .before .before .before .before .loop .end) (c .before .before .add-candidate .result) (c .before .before .before .before .before .loop .out) (c .before .before .add-candidate .last .1 .1 .1 .1 .0) (omega arith) (c .before .before .before .before .before .loop .inv .4) (c .before .before .add-candidate .ensures))
 
--- src/expected.rt:85:1
 same-length : tie.Need-same-length Inv-loop μ-loop
 same-length c = search needs
 
--- src/expected.rt:85:1
 returns : tie.Need-returns Inv-loop μ-loop
 returns c = items-end (c .before .before .before .before .args .text .now) (c .before .before .before .before .args .place) (c .before .before .before .before .args .at) (c .before .before .before .before .args .out .now) (c .before .loop .k) (c .before .loop .end) (c .before .loop .out) (omega arith) (c .before .loop .inv .4)
 

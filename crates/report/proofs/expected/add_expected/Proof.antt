@@ -1,39 +1,29 @@
+-- `report::expected::add_expected` meets its contract. Assumes nothing.
 use native.Mathlib.Omega.{arith}
 use Rattle.report.specs.Compiled.{expectedText}
 use Rattle.print.proofs.AddedLaws.{filled-as, filled-then}
 use borrow.Author.Needs.{needs}
 use Rattle.report.proofs.expected.add_expected.Statement.{statement}
 use Rattle.report.proofs.expected.add_expected.Tie as tie
-use Rattle.report.proofs.expected.add_expected.Reads as reads
-use Rattle.report.proofs.expected.add_expected.Lts as lts
-use Rattle.print.proofs.add_bytes.Reads as add-bytes-reads
-use Rattle.report.proofs.expected.add_items.Reads as add-items-reads
 
--- src/expected.rt:122:27
 slice-aggregate-add-bytes : tie.Need-slice-aggregate-add-bytes
 slice-aggregate-add-bytes c = search needs
 
--- src/expected.rt:122:9
 add-bytes-requires : tie.Need-add-bytes-requires
 add-bytes-requires c κs = search needs
 
--- src/expected.rt:123:9
 add-items-requires : tie.Need-add-items-requires
 add-items-requires c κs = search needs
 
--- src/expected.rt:124:15
 slice-aggregate-add-bytes-2 : tie.Need-slice-aggregate-add-bytes-2
 slice-aggregate-add-bytes-2 c = search needs
 
--- src/expected.rt:124:5
 add-bytes-requires-2 : tie.Need-add-bytes-requires-2
 add-bytes-requires-2 c κs = search needs
 
--- src/expected.rt:118:1
 same-length : tie.Need-same-length
 same-length c = search needs
 
--- src/expected.rt:118:1
 returns : tie.Need-returns
 unfolding expectedText
 returns c = let room = c .before .before .before .before .before .before .before .before .before .before .before .before .before .before .before .before .pre .1 in filled-then room (filled-then (omega arith) (filled-as 9 (omega arith) (c .before .before .before .before .before .before .before .before .before .before .before .add-bytes .ensures)) (c .before .before .before .before .before .before .before .add-items .ensures)) (filled-as 1 (omega arith) (c .before .before .add-bytes2 .ensures))

@@ -1,3 +1,4 @@
+-- `report::expected::add_item` meets its contract. Assumes nothing.
 use mathlib.Core.Path.{sym, _∙_}
 use native.Mathlib.Omega.{arith}
 use Rattle.print.proofs.AddedLaws.{filled-as, filled-then}
@@ -5,36 +6,25 @@ use Rattle.report.proofs.ExpectedLaws.{item-stands, item-not}
 use borrow.Author.Needs.{needs}
 use Rattle.report.proofs.expected.add_item.Statement.{statement}
 use Rattle.report.proofs.expected.add_item.Tie as tie
-use Rattle.report.proofs.expected.add_item.Reads as reads
-use Rattle.report.proofs.expected.add_item.Lts as lts
-use Rattle.print.proofs.add_bytes.Reads as add-bytes-reads
-use Rattle.report.proofs.expected.may_stand.Reads as may-stand-reads
 
--- src/expected.rt:51:8
 may-stand-requires : tie.Need-may-stand-requires
 may-stand-requires c κs = search needs
 
--- src/expected.rt:52:29
 slice-aggregate-add-bytes : tie.Need-slice-aggregate-add-bytes
 slice-aggregate-add-bytes c = search needs
 
--- src/expected.rt:52:13
 add-bytes-requires : tie.Need-add-bytes-requires
 add-bytes-requires c κs = search needs
 
--- src/expected.rt:53:9
 add-bytes-requires-2 : tie.Need-add-bytes-requires-2
 add-bytes-requires-2 c κs = search needs
 
--- src/expected.rt:53:9
 same-length : tie.Need-same-length
 same-length c = search needs
 
--- src/expected.rt:53:9
 returns : tie.Need-returns
 returns c = item-stands _ (c .before .before .before .before .before .before .before .before .before .before .before .before .before .before .before .args .shown .now) (sym (c .before .before .before .before .before .before .before .before .before .before .may-stand .ensures) ∙ c .before .before .before .before .before .before .before .before .before .if1 .taken) (filled-then (omega arith) (filled-as 1 (omega arith) (c .before .before .before .before .before .before .add-bytes .ensures)) (filled-as 8 (c .before .before .before .before .before .before .before .before .before .before .before .before .before .before .before .pre .2) (c .before .before .add-bytes2 .ensures)))
 
--- src/expected.rt:40:1
 returns-2 : tie.Need-returns-2
 returns-2 c = item-not _ (c .before .before .before .before .before .before .args .shown .now) (c .before .before .before .before .before .before .args .at) (c .before .before .before .before .before .before .args .out .now) (sym (c .before .may-stand .ensures) ∙ c .if1 .left)
 

@@ -1,3 +1,4 @@
+-- `report::mark::add_pointer` meets its contract. Assumes nothing.
 use mathlib.Core.Path.{sym}
 use native.Mathlib.Omega.{arith}
 use Rattle.print.proofs.AddedLaws.{filled-as, filled-is, filled-then, filled-room}
@@ -5,44 +6,31 @@ use Rattle.report.proofs.MarkLaws.{indent-length, indent-text}
 use borrow.Author.Needs.{needs}
 use Rattle.report.proofs.mark.add_pointer.Statement.{statement}
 use Rattle.report.proofs.mark.add_pointer.Tie as tie
-use Rattle.report.proofs.mark.add_pointer.Reads as reads
-use Rattle.report.proofs.mark.add_pointer.Lts as lts
-use Rattle.print.proofs.add_bytes.Reads as add-bytes-reads
-use Rattle.report.proofs.mark.shown_from.Reads as shown-from-reads
 
--- src/mark.rt:65:21
 shown-from-requires : tie.Need-shown-from-requires
 shown-from-requires c κs = search needs
 
--- src/mark.rt:65:13
 sub-n : tie.Need-sub-n
 sub-n c = search needs
 
--- src/mark.rt:66:25
 array-share-prefix-spaces : tie.Need-array-share-prefix-spaces
 array-share-prefix-spaces c = search needs
 
--- src/mark.rt:66:25
 slice-aggregate-add-bytes : tie.Need-slice-aggregate-add-bytes
 slice-aggregate-add-bytes c = sym (indent-length (c .before .before .before .args .place) (c .before .shown-from .result) (c .before .shown-from .ensures))
 
--- src/mark.rt:66:9
 add-bytes-requires : tie.Need-add-bytes-requires
 add-bytes-requires c κs = let l = indent-length (c .before .before .before .before .args .place) (c .before .before .shown-from .result) (c .before .before .shown-from .ensures) in let e = c .before .before .shown-from .ensures in let room = c .before .before .before .before .pre in omega arith
 
--- src/mark.rt:67:15
 slice-aggregate-add-bytes-2 : tie.Need-slice-aggregate-add-bytes-2
 slice-aggregate-add-bytes-2 c = search needs
 
--- src/mark.rt:67:5
 add-bytes-requires-2 : tie.Need-add-bytes-requires-2
 add-bytes-requires-2 c κs = let e = c .before .before .before .before .before .before .before .shown-from .ensures in let room = c .before .before .before .before .before .before .before .before .before .pre in filled-room 2 (omega arith) (filled-as 60 (let l = indent-length (c .before .before .before .before .before .before .before .before .before .args .place) (c .before .before .before .before .before .before .before .shown-from .result) e in omega arith) (c .before .before .before .before .add-bytes .ensures))
 
--- src/mark.rt:60:1
 same-length : tie.Need-same-length
 same-length c = search needs
 
--- src/mark.rt:60:1
 returns : tie.Need-returns
 returns c = let e = c .before .before .before .before .before .before .before .before .before .before .shown-from .ensures in let room = c .before .before .before .before .before .before .before .before .before .before .before .before .pre in filled-is (indent-text (c .before .before .before .before .before .before .before .before .before .before .before .before .args .place) (c .before .before .before .before .before .before .before .before .before .before .shown-from .result) e) (filled-then (omega arith) (filled-as 60 (let l = indent-length (c .before .before .before .before .before .before .before .before .before .before .before .before .args .place) (c .before .before .before .before .before .before .before .before .before .before .shown-from .result) e in omega arith) (c .before .before .before .before .before .before .before .add-bytes .ensures)) (filled-as 2 (omega arith) (c .before .before .add-bytes2 .ensures)))
 

@@ -1,3 +1,4 @@
+-- `report::mark::add_shown` meets its contract: the bytes before i are shown. Assumes nothing.
 use Prim.Native.Nat.{_+_, _-_, _≤_}
 use lib.ListN.{length, take}
 use mathlib.Core.Path.{_≡_}
@@ -6,9 +7,6 @@ use Rattle.report.proofs.MarkLaws.{shown, shown-start, shown-next, show
 use borrow.Author.Needs.{needs}
 use Rattle.report.proofs.mark.add_shown.Statement.{statement}
 use Rattle.report.proofs.mark.add_shown.Tie as tie
-use Rattle.report.proofs.mark.add_shown.Reads as reads
-use Rattle.report.proofs.mark.add_shown.Lts as lts
-use Rattle.report.proofs.mark.show.Reads as show-reads
 
 abbrev Inv-loop : tie.InvT-loop
 Inv-loop text from n at out₀ i₀ out i =
@@ -18,51 +16,39 @@ Inv-loop text from n at out₀ i₀ out i =
 abbrev μ-loop : tie.MeasureT-loop
 μ-loop text from n at out₀ i₀ out i = n - i
 
--- src/mark.rt:38:5
 loop-holds : tie.Need-loop-holds Inv-loop μ-loop
 loop-holds c = (c .before .before .pre .0, c .before .before .pre .1, search needs, search needs, shown-start (c .before .before .args .text .now) (c .before .before .args .from) (c .before .before .args .n) (c .before .before .pre .0) (c .before .before .args .at) (c .before .before .args .out .now) (c .before .before .pre .1))
 
--- src/mark.rt:39:33
 add-show : tie.Need-add-show Inv-loop μ-loop
 add-show c = search needs
 
--- src/mark.rt:39:28
 shared-slice-read-show : tie.Need-shared-slice-read-show Inv-loop μ-loop
 shared-slice-read-show c = search needs
 
--- src/mark.rt:39:23
 show-requires : tie.Need-show-requires Inv-loop μ-loop
 show-requires c κs = search needs
 
--- src/mark.rt:39:13
 add-out : tie.Need-add-out Inv-loop μ-loop
 add-out c = search needs
 
--- src/mark.rt:39:9
 slice-write-out : tie.Need-slice-write-out Inv-loop μ-loop
 slice-write-out c = search needs
 
--- src/mark.rt:40:9
 add-i : tie.Need-add-i Inv-loop μ-loop
 add-i c = search needs
 
--- src/mark.rt:38:5
 loop-less : tie.Need-loop-less Inv-loop μ-loop
 loop-less c = search needs
 
--- src/mark.rt:38:5
 loop-again : tie.Need-loop-again Inv-loop μ-loop
 loop-again c = let i = c .before .before .before .loop .inv in (search needs, search needs, search needs, search needs, shown-next (c .before .before .before .before .before .before .args .text .now) (c .before .before .before .before .before .before .args .from) (c .before .before .before .before .before .before .args .n) (i .0) (c .before .before .before .before .before .before .args .at) (c .before .before .before .before .before .before .args .out .now) (i .1) (c .before .before .before .loop .i) (c .show .result) (c .before .before .before .loop .out) (c .before .before .loop-test .taken) (c .show .ensures) (i .4))
 
--- src/mark.rt:42:5
 add-result : tie.Need-add-result Inv-loop μ-loop
 add-result c = search needs
 
--- src/mark.rt:33:1
 same-length : tie.Need-same-length Inv-loop μ-loop
 same-length c = search needs
 
--- src/mark.rt:33:1
 returns : tie.Need-returns Inv-loop μ-loop
 returns c = let i = c .before .loop .inv in shown-end (c .before .before .before .before .args .text .now) (c .before .before .before .before .args .from) (c .before .before .before .before .args .n) (i .0) (c .before .before .before .before .args .at) (c .before .before .before .before .args .out .now) (i .1) (c .before .loop .i) (c .before .loop .out) (c .loop-test .left) (i .4)
 

@@ -1,41 +1,29 @@
+-- `report::mark::add_text` meets its contract. Assumes nothing.
 use native.Mathlib.Omega.{arith}
 use Rattle.print.proofs.AddedLaws.{filled-as, filled-is, filled-then, filled-room}
 use Rattle.report.proofs.MarkLaws.{shown-few, shown-all}
 use borrow.Author.Needs.{needs}
 use Rattle.report.proofs.mark.add_text.Statement.{statement}
 use Rattle.report.proofs.mark.add_text.Tie as tie
-use Rattle.report.proofs.mark.add_text.Reads as reads
-use Rattle.report.proofs.mark.add_text.Lts as lts
-use Rattle.print.proofs.add_bytes.Reads as add-bytes-reads
-use Rattle.report.proofs.mark.add_shown.Reads as add-shown-reads
-use Rattle.report.proofs.mark.shown_count.Reads as shown-count-reads
-use Rattle.report.proofs.mark.shown_from.Reads as shown-from-reads
 
--- src/mark.rt:53:9
 shown-from-requires : tie.Need-shown-from-requires
 shown-from-requires c κs = search needs
 
--- src/mark.rt:54:9
 shown-count-requires : tie.Need-shown-count-requires
 shown-count-requires c κs = search needs
 
--- src/mark.rt:55:9
 add-shown-requires : tie.Need-add-shown-requires
 add-shown-requires c κs = let k = c .before .shown-count .ensures in let l = k .0 in let room = c .before .before .before .before .before .pre in (k .1, omega arith)
 
--- src/mark.rt:56:15
 slice-aggregate-add-bytes : tie.Need-slice-aggregate-add-bytes
 slice-aggregate-add-bytes c = search needs
 
--- src/mark.rt:56:5
 add-bytes-requires : tie.Need-add-bytes-requires
 add-bytes-requires c κs = let room = c .before .before .before .before .before .before .before .before .before .before .pre in let k = c .before .before .before .before .before .before .shown-count .ensures in filled-room 1 (omega arith) (filled-as 72 (let s = shown-few (c .before .before .before .before .before .before .before .before .before .before .args .text .now) (c .before .before .before .before .before .before .before .shown-from .result) (c .before .before .before .before .before .before .shown-count .result) in let l = k .0 in omega arith) (c .before .before .before .before .add-shown .ensures))
 
--- src/mark.rt:49:1
 same-length : tie.Need-same-length
 same-length c = search needs
 
--- src/mark.rt:49:1
 returns : tie.Need-returns
 returns c = let room = c .before .before .before .before .before .before .before .before .before .before .before .before .before .pre in let k = c .before .before .before .before .before .before .before .before .before .shown-count .ensures in filled-is (shown-all (c .before .before .before .before .before .before .before .before .before .before .before .before .before .args .text .now) (c .before .before .before .before .before .before .before .before .before .before .before .before .before .args .place) (c .before .before .before .before .before .before .before .before .before .before .shown-from .result) (c .before .before .before .before .before .before .before .before .before .shown-count .result) (c .before .before .before .before .before .before .before .before .before .before .shown-from .ensures) (k .0) (k .2)) (filled-then (omega arith) (filled-as 72 (let s = shown-few (c .before .before .before .before .before .before .before .before .before .before .before .before .before .args .text .now) (c .before .before .before .before .before .before .before .before .before .before .shown-from .result) (c .before .before .before .before .before .before .before .before .before .shown-count .result) in let l = k .0 in omega arith) (c .before .before .before .before .before .before .before .add-shown .ensures)) (filled-as 1 (omega arith) (c .before .before .add-bytes .ensures)))
 

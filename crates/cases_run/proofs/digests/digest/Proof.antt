@@ -1,21 +1,21 @@
--- `cases_run::weaving::digest` is safe and ends: the number stays below the modulus, so that no step of it overflows. Assumes nothing.
+-- `cases_run::digests::digest` is safe and ends: the number stays below the modulus, so that no step of it overflows. Assumes nothing.
 use borrow.Author.Needs.{needs}
 use Prim.Native.Nat.{_-_, _<_, _≤_}
 use lib.ListN.{length}
-use Rattle.cases_run.proofs.weaving.digest.Statement.{statement}
-use Rattle.cases_run.proofs.weaving.digest.Tie as tie
+use Rattle.cases_run.proofs.digests.digest.Statement.{statement}
+use Rattle.cases_run.proofs.digests.digest.Tie as tie
 
 abbrev Inv-loop : tie.InvT-loop
-Inv-loop words h₀ i₀ h i = (i ≤ length words) × (h < 4294967291)
+Inv-loop h words d₀ i₀ d i = (i ≤ length words) × (d < 4294967291)
 
 abbrev μ-loop : tie.MeasureT-loop
-μ-loop words h₀ i₀ h i = length words - i
+μ-loop h words d₀ i₀ d i = length words - i
 
 loop-holds : tie.Need-loop-holds Inv-loop μ-loop
 loop-holds c = search needs
 
-mul-h : tie.Need-mul-h Inv-loop μ-loop
-mul-h c = search needs
+mul-d : tie.Need-mul-d Inv-loop μ-loop
+mul-d c = search needs
 
 mul-wide : tie.Need-mul-wide Inv-loop μ-loop
 mul-wide c = search needs
@@ -26,8 +26,8 @@ shared-slice-read-wide c = search needs
 wide-requires : tie.Need-wide-requires Inv-loop μ-loop
 wide-requires c κs = search needs
 
-add-h : tie.Need-add-h Inv-loop μ-loop
-add-h c = search needs
+add-d : tie.Need-add-d Inv-loop μ-loop
+add-d c = search needs
 
 add-i : tie.Need-add-i Inv-loop μ-loop
 add-i c = search needs
@@ -48,11 +48,11 @@ digest-spec =
     Inv-loop
     μ-loop
     loop-holds
-    mul-h
+    mul-d
     mul-wide
     shared-slice-read-wide
     wide-requires
-    add-h
+    add-d
     add-i
     loop-less
     loop-again
