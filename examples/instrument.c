@@ -1,6 +1,6 @@
 /*
- * An audiometer in small: it loads a rule and a bare script from hex text, has the guard woven in and checked, plays the script
- * step by step with inputs from a list, prints each presentation as it is made, and has the record judged afterwards.
+ * An audiometer in small: it loads a rule typed as text and a bare script in hexadecimal, has the guard woven in and checked, plays
+ * the script step by step with inputs from a list, prints each presentation as it is made, and has the record judged afterwards.
  *
  *     instrument RULE SCRIPT ACCIDENT INPUT...
  */
@@ -8,19 +8,26 @@
 #include <stdbool.h>
 #include <stdio.h>
 #include <stdlib.h>
+#include <string.h>
 
 #include "guard.h"
 
-enum { MOST_INPUTS = 256, MOST_PRESENTATIONS = 64, MOST_STEPS = 10000 };
+enum { MOST_TEXT = 1024, MOST_INPUTS = 256, MOST_PRESENTATIONS = 64, MOST_STEPS = 10000 };
 
-/* Words in hexadecimal, with blanks between them; # starts a comment. */
-static size_t read_hex(const char *path, uint32_t *words, size_t most)
+static FILE *open_file(const char *path)
 {
     FILE *file = fopen(path, "r");
     if (file == NULL) {
         perror(path);
         exit(2);
     }
+    return file;
+}
+
+/* Words in hexadecimal, with blanks between them; # starts a comment. */
+static size_t read_hex(const char *path, uint32_t *words, size_t most)
+{
+    FILE *file = open_file(path);
     size_t n = 0;
     int c = fgetc(file);
     while (c != EOF) {
@@ -57,6 +64,30 @@ static void stop_if_refused(const char *what, uint32_t question, const uint64_t 
         tell_refusal(what, question, numbers[GUARD_PLACE]);
         exit(1);
     }
+}
+
+/* The first line of a file, without its end. */
+static void read_line(const char *path, char *line, int most)
+{
+    FILE *file = open_file(path);
+    if (fgets(line, most, file) == NULL)
+        line[0] = '\0';
+    line[strcspn(line, "\r\n")] = '\0';
+    fclose(file);
+}
+
+/* A rule typed as text, and how many nodes it has. Where the text goes wrong, it is shown with a mark under the byte. */
+static size_t read_rule(const char *path, uint32_t *rule)
+{
+    char text[MOST_TEXT];
+    uint64_t numbers[GUARD_TEXT_NUMBERS];
+    read_line(path, text, MOST_TEXT);
+    uint32_t question = guard_text((const uint8_t *)text, strlen(text), rule, GUARD_MOST_NODES, numbers, GUARD_TEXT_NUMBERS);
+    if (question == GUARD_TEXT_GRAMMAR || question == GUARD_TEXT_RANGE)
+        printf("%s\n%*s\n", text, (int)numbers[GUARD_PLACE] + 1, "^");
+    stop_if_refused("rule", question, numbers);
+    printf("rule: %llu nodes\n", (unsigned long long)numbers[GUARD_TEXT_NODES]);
+    return (size_t)numbers[GUARD_TEXT_NODES];
 }
 
 static void print_state(const uint16_t *state)
@@ -115,15 +146,14 @@ int main(int argc, char **argv)
         fprintf(stderr, "usage: %s RULE SCRIPT ACCIDENT INPUT...\n", argv[0]);
         return 2;
     }
-    size_t nodes = read_hex(argv[1], rule, GUARD_MOST_NODES);
+    size_t nodes = read_rule(argv[1], rule);
     size_t lines = read_hex(argv[2], bare, GUARD_MOST_LINES);
     size_t input_count = (size_t)argc - 4;
     for (size_t i = 0; i < input_count; i++)
         inputs[i] = (uint16_t)strtoul(argv[4 + i], NULL, 10);
 
-    uint32_t question = guard_rule(rule, nodes, numbers, GUARD_RULE_NUMBERS);
-    stop_if_refused("rule", question, numbers);
-    question = guard_weave(rule, nodes, bare, lines, script, GUARD_LINE_WORDS * GUARD_MOST_LINES, numbers, GUARD_WEAVE_NUMBERS);
+    uint32_t question = guard_weave(rule, nodes, bare, lines, script, GUARD_LINE_WORDS * GUARD_MOST_LINES,
+                                    numbers, GUARD_WEAVE_NUMBERS);
     stop_if_refused("script", question, numbers);
     printf("woven: %zu lines became %llu\n", lines, (unsigned long long)numbers[GUARD_WEAVE_LINES]);
     size_t words = GUARD_LINE_WORDS * (size_t)numbers[GUARD_WEAVE_LINES];
