@@ -23,12 +23,6 @@ follow (suc zero) = 2
 follow (suc (suc zero)) = 3
 follow (suc (suc (suc l))) = 4
 
-follow-small : (l : ℕ) → follow l ≤ 4
-follow-small zero = omega arith
-follow-small (suc zero) = omega arith
-follow-small (suc (suc zero)) = omega arith
-follow-small (suc (suc (suc l))) = omega arith
-
 follow-up : (l : ℕ) → follow l ≤ follow (suc l)
 follow-up zero = omega arith
 follow-up (suc zero) = omega arith

@@ -1,12 +1,14 @@
 -- Tokens that fit (`specs/Place.antt`) are those that spell a formula (`specs/Grammar.antt`).
 --     at-level, right-small, left-small       what binds tighter stands also where less is wanted
---     fits-step, fits-stop, fits-out, Goes, goes      one token: it may stand there, and then nine ways are left
+--     fits-step, fits-stop, fits-out          one token, where it may stand and where not
+--     AnOperand, AFormula                     an operand, and a formula, at the beginning of tokens that fit
 --     fits-spells                             tokens that fit spell a formula
 --     spells-fits                             tokens that spell one fit
 -- Assumes nothing.
+-- ---- levels
 use mathlib.Core.Path.{_≡_, refl, sym, subst, ap, _∙_}
 use mathlib.Core.Logic.{_⊎_, inl, inr}
-use mathlib.Core.Bool.{Bool, true, false}
+use mathlib.Core.Bool.{true, false}
 use mathlib.Core.Option.{Option, none, some}
 use mathlib.Core.List.{List, [], _∷_, _++_, append-assoc, append-nil}
 use Prim.Native.Nat.{ℕ, zero, suc, _+_, _-_, _*_, _≤_, _<_}
@@ -16,10 +18,8 @@ use lib.ListN.{length, length-append}
 use lib.Dec.{eqb, eqb·suc-zero}
 use Rattle.spec.proofs.BoolLaws.{clash, le-or-lt}
 use Rattle.grammar.specs.Typed.{Prefix, Operator, sinceWord, andWord, orWord, impliesWord, Comparison, TextFormula, constant, atom, prefixed, joined}
-use Rattle.grammar.specs.Grammar.{Word, constantWord, prefixWord, operatorWord, Sign, openSign, closeSign, equalSign, belowSign, Token, word, register, number, sign, strength, leftLevel, rightLevel, Compares, byEqual, byBelow, Spells, aConstant, anAtom, inBrackets, aPrefixed, aJoined, tighter}
-use Rattle.grammar.specs.Place.{Want, operand, comparison, constantNumber, operator, Place, at, afterWord, afterClose, afterToken, mayEndAt, fits}
-
--- ---- levels
+use Rattle.grammar.specs.Grammar.{constantWord, prefixWord, operatorWord, Sign, openSign, closeSign, equalSign, belowSign, Token, word, register, number, sign, strength, leftLevel, rightLevel, Compares, byEqual, byBelow, Spells, aConstant, anAtom, inBrackets, aPrefixed, aJoined, tighter}
+use Rattle.grammar.specs.Place.{operand, comparison, constantNumber, operator, Place, at, afterToken, fits}
 
 lower : (k : ℕ) {l : ℕ} {ts : List Token} {φ : TextFormula} → Spells (k + l) ts φ → Spells l ts φ
 lower zero {l} {ts} {φ} e = let z : zero + l ≡ l = omega arith in subst (λ n. Spells n ts φ) z e
@@ -191,14 +191,6 @@ operand-next n os fs d (sign openSign ∷ ts) l f = bracketed (fs (suc d) ts (om
 operand-next n os fs d (sign closeSign ∷ ts) l f = clash f refl
 operand-next n os fs d (sign equalSign ∷ ts) l f = clash f refl
 operand-next n os fs d (sign belowSign ∷ ts) l f = clash f refl
-
-spelled-some : {l : ℕ} {ts : List Token} {φ : TextFormula} → Spells l ts φ → 0 < length ts
-spelled-some (aConstant c) = omega arith
-spelled-some (anAtom r c g) = omega arith
-spelled-some (inBrackets e) = omega arith
-spelled-some (aPrefixed p e) = omega arith
-spelled-some (aJoined o {ts = ts} {us = us} e f) = let z = length-append ts (word (operatorWord o) ∷ us) in omega arith
-spelled-some (tighter e) = spelled-some e
 
 -- an operand alone, or before a closing bracket
 alone : {d : ℕ} {ts : List Token} (x : AnOperand d ts) → Ends d (x .rest) → AFormula d ts
