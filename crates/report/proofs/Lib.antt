@@ -5,3 +5,4 @@ pub mod NodeLaws
 pub mod StandLaws
 pub mod ExpectedLaws
 pub mod AnswerLaws
+pub mod CompiledCases

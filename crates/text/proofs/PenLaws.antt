@@ -18,7 +18,7 @@ use Rattle.grammar.specs.Reading.{Waiting, awaiting, withLeft, rank, Built, Rea
 use Rattle.text.specs.Tokens.{prefixOf, operatorOf, tokensIn}
 use Rattle.text.specs.Building.{put, putConstant, words, beginCost, finishCost, tokenCost, cost}
 use Rattle.text.specs.Stacks.{waitingOf, stackOf, builtOf, owed, comparisonOf, Holds, Fitting}
-use Rattle.text.specs.Pens.{Builds, penAt, readingWith, Ready, Takes}
+use Rattle.text.specs.Pens.{Builds, penAt, penWith, readingWith, Ready, Takes}
 use Rattle.text.specs.declared.token.Prefix.{Prefix}
 use Rattle.text.specs.declared.token.Operator.{Operator}
 use Rattle.text.specs.declared.token.Token as token
@@ -65,15 +65,15 @@ module _ (stack table : List ℕ) (p : Pen) (depth : ℕ) where
   unfolding readAll read
   taken-close f = record { reading = refl; fits = f }
 
-  pub taken-register : (n : ℕ) → Fitting stack top table count → Takes stack table p depth (variant.Register n) stack table (record { height = p .height; register = n; below = p .below })
+  pub taken-register : (n : ℕ) → Fitting stack top table count → Takes stack table p depth (variant.Register n) stack table (penWith p n (p .below))
   unfolding readAll read
   taken-register n f = record { reading = refl; fits = f }
 
-  pub taken-equal : Fitting stack top table count → Takes stack table p depth variant.Equal stack table (record { height = p .height; register = p .register; below = false })
+  pub taken-equal : Fitting stack top table count → Takes stack table p depth variant.Equal stack table (penWith p (p .register) false)
   unfolding readAll read
   taken-equal f = record { reading = refl; fits = f }
 
-  pub taken-below : Fitting stack top table count → Takes stack table p depth variant.Below stack table (record { height = p .height; register = p .register; below = true })
+  pub taken-below : Fitting stack top table count → Takes stack table p depth variant.Below stack table (penWith p (p .register) true)
   unfolding readAll read
   taken-below f = record { reading = refl; fits = f }
 

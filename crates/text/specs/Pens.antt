@@ -1,5 +1,6 @@
 -- What is built while a text's tokens are read, in the code's arrays.
 use mathlib.Core.Path.{_≡_}
+use mathlib.Core.Bool.{Bool}
 use mathlib.Core.List.{List, [], _∷_}
 use Prim.Native.Nat.{ℕ, _+_, _≤_, _<_}
 use Rattle.spec.specs.Rule.{form32}
@@ -23,6 +24,9 @@ pub record Builds (stack : List ℕ) (top : ℕ) (table : List ℕ) (count : ℕ
 
 abbrev pub penAt : Pen → (top count : ℕ) → Pen
 penAt p t n = record { height = record { top = t; count = n }; register = p .register; below = p .below }
+
+abbrev pub penWith : Pen → (register : ℕ) (below : Bool) → Pen
+penWith p n b = record { height = p .height; register = n; below = b }
 
 abbrev pub readingWith : Pen → (depth : ℕ) → Built (List ℕ) ℕ → Reading (List ℕ) ℕ
 readingWith p d x = record { built = x; depth = d; ofRegister = p .register; comparedBy = comparisonOf (p .below) }

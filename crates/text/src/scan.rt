@@ -10,12 +10,13 @@ use crate::token::read_word;
 use rule::answer::Answer;
 ghost use mathlib.Core.Path.{_≡_};
 ghost use mathlib.Core.Bool.{true, false};
-ghost use Prim.Native.Nat.{_-_, _<_};
+ghost use Prim.Native.Nat.{_-_, _≤_, _<_};
 ghost use mathlib.Core.Logic.{_≢_};
 ghost use lib.ListN.{length, getD};
 ghost use Rattle.grammar.specs.Grammar.{space, letterR};
 ghost use Rattle.rule.specs.Answers.{answerOf};
 ghost use Rattle.grammar.specs.Scan.{mayEnd, question16};
+ghost use Rattle.text.specs.Tokens.{wordAt};
 ghost use Rattle.text.specs.Places.{scanAt, scanOf, scanAfter, Reads, closeAt};
 
 // What may come next.
@@ -55,6 +56,27 @@ fn read_register(text: &[u8], at: usize, depth: usize, touching: bool) -> Lexed
     }
 }
 
+fn read_constant(text: &[u8], at: usize, touching: bool, letters: &[u8], value: bool) -> Lexed
+    requires { ⌜ at ≤ length (now text) ⌝ }
+    ensures { λ r. ⌜ r ≡ wordAt (Token.Constant value) touching (now (letters .entry)) at (now (text .entry)) ⌝ }
+{
+    read_word(text, at, touching, letters, Token::Constant { value })
+}
+
+fn read_prefix(text: &[u8], at: usize, touching: bool, letters: &[u8], word: Prefix) -> Lexed
+    requires { ⌜ at ≤ length (now text) ⌝ }
+    ensures { λ r. ⌜ r ≡ wordAt (Token.Prefix word) touching (now (letters .entry)) at (now (text .entry)) ⌝ }
+{
+    read_word(text, at, touching, letters, Token::Prefix { word })
+}
+
+fn read_infix(text: &[u8], at: usize, touching: bool, letters: &[u8], word: Operator) -> Lexed
+    requires { ⌜ at ≤ length (now text) ⌝ }
+    ensures { λ r. ⌜ r ≡ wordAt (Token.Operator word) touching (now (letters .entry)) at (now (text .entry)) ⌝ }
+{
+    read_word(text, at, touching, letters, Token::Operator { word })
+}
+
 // The words that an operand begins with differ in their first letters.
 fn read_operand(text: &[u8], at: usize, depth: usize, touching: bool) -> Lexed
     requires { ⌜ (at < length (now text)) × (getD (now text) at 0 ≢ space) ⌝ }
@@ -63,53 +85,13 @@ fn read_operand(text: &[u8], at: usize, depth: usize, touching: bool) -> Lexed
     match text[at] {
         b'(' => one_byte(Token::Open, at),
         b'r' => read_register(text, at, depth, touching),
-        b't' => read_word(text, at, touching, b"true", Token::Constant { value: true }),
-        b'f' => read_word(
-            text,
-            at,
-            touching,
-            b"false",
-            Token::Constant { value: false },
-        ),
-        b'n' => read_word(
-            text,
-            at,
-            touching,
-            b"not",
-            Token::Prefix { word: Prefix::Not },
-        ),
-        b'w' => read_word(
-            text,
-            at,
-            touching,
-            b"wprev",
-            Token::Prefix {
-                word: Prefix::Wprev,
-            },
-        ),
-        b'p' => read_word(
-            text,
-            at,
-            touching,
-            b"prev",
-            Token::Prefix { word: Prefix::Prev },
-        ),
-        b'o' => read_word(
-            text,
-            at,
-            touching,
-            b"once",
-            Token::Prefix { word: Prefix::Once },
-        ),
-        b's' => read_word(
-            text,
-            at,
-            touching,
-            b"sofar",
-            Token::Prefix {
-                word: Prefix::Sofar,
-            },
-        ),
+        b't' => read_constant(text, at, touching, b"true", true),
+        b'f' => read_constant(text, at, touching, b"false", false),
+        b'n' => read_prefix(text, at, touching, b"not", Prefix::Not),
+        b'w' => read_prefix(text, at, touching, b"wprev", Prefix::Wprev),
+        b'p' => read_prefix(text, at, touching, b"prev", Prefix::Prev),
+        b'o' => read_prefix(text, at, touching, b"once", Prefix::Once),
+        b's' => read_prefix(text, at, touching, b"sofar", Prefix::Sofar),
         _ => Lexed::Stuck { place: at },
     }
 }
@@ -159,40 +141,10 @@ fn read_operator(text: &[u8], at: usize, depth: usize, touching: bool) -> Lexed
 {
     match text[at] {
         b')' => read_close(at, depth),
-        b's' => read_word(
-            text,
-            at,
-            touching,
-            b"since",
-            Token::Operator {
-                word: Operator::Since,
-            },
-        ),
-        b'a' => read_word(
-            text,
-            at,
-            touching,
-            b"and",
-            Token::Operator {
-                word: Operator::And,
-            },
-        ),
-        b'o' => read_word(
-            text,
-            at,
-            touching,
-            b"or",
-            Token::Operator { word: Operator::Or },
-        ),
-        b'i' => read_word(
-            text,
-            at,
-            touching,
-            b"implies",
-            Token::Operator {
-                word: Operator::Implies,
-            },
-        ),
+        b's' => read_infix(text, at, touching, b"since", Operator::Since),
+        b'a' => read_infix(text, at, touching, b"and", Operator::And),
+        b'o' => read_infix(text, at, touching, b"or", Operator::Or),
+        b'i' => read_infix(text, at, touching, b"implies", Operator::Implies),
         _ => Lexed::Stuck { place: at },
     }
 }

@@ -37,7 +37,7 @@ ghost use Rattle.grammar.specs.Reading.{awaiting, withLeft, rank, unwound, wait
 ghost use Rattle.text.specs.Tokens.{prefixOf, operatorOf, tokensIn};
 ghost use Rattle.text.specs.Building.{words, begins, beginCost, finishCost, tokenCost, cost};
 ghost use Rattle.text.specs.Stacks.{waitingOf, stackOf, builtOf, owed, Holds, Fitting};
-ghost use Rattle.text.specs.Pens.{Builds, penAt, Ready, Takes, TableOf};
+ghost use Rattle.text.specs.Pens.{Builds, penAt, penWith, Ready, Takes, TableOf};
 
 // How many words wait and nodes are there, and the register and the sign of the atom that is being read.
 pub struct Pen {
@@ -179,6 +179,17 @@ fn at_height(pen: Pen, top: usize, count: usize) -> Pen
     }
 }
 
+fn with_atom(pen: Pen, register: u32, below: bool) -> Pen
+    ensures { λ r. ⌜ r ≡ penWith pen register below ⌝ }
+{
+    let height = pen.height;
+    Pen {
+        height,
+        register,
+        below,
+    }
+}
+
 // What a token puts and leaves waiting.
 fn take_token(
     token: Token,
@@ -212,11 +223,7 @@ fn take_token(
             );
             at_height(pen, h.top, h.count)
         }
-        Token::Register { number } => Pen {
-            height,
-            register: number,
-            below: pen.below,
-        },
+        Token::Register { number } => with_atom(pen, number, pen.below),
         Token::Number { number } => at_height(
             pen,
             top,
@@ -224,16 +231,8 @@ fn take_token(
         ),
         Token::Open => pen,
         Token::Close => pen,
-        Token::Equal => Pen {
-            height,
-            register: pen.register,
-            below: false,
-        },
-        Token::Below => Pen {
-            height,
-            register: pen.register,
-            below: true,
-        },
+        Token::Equal => with_atom(pen, pen.register, false),
+        Token::Below => with_atom(pen, pen.register, true),
     }
 }
 

@@ -1,10 +1,6 @@
-use Rattle.text.proofs.PenLaws.{ready-as, took, with-pen}
--- `text::write::take_token` meets its contract, by a law of `PenLaws` for each token. Assumes nothing.
-use mathlib.Core.Bool.{true, false}
-use mathlib.Core.Path.{sym, subst}
+-- `text::write::take_token` meets its contract, token by token. Assumes nothing.
+use Rattle.text.proofs.PenLaws.{ready-as, took, with-pen, taken-space, taken-open, taken-close, taken-register, taken-equal, taken-below, constant-room, taken-constant, number-room, taken-number, prefix-room, taken-prefix, operator-room, taken-operator}
 use borrow.Author.Needs.{needs}
-use Rattle.text.specs.Pens.{penAt, Ready, Takes}
-use Rattle.text.proofs.PenLaws.{taken-space, taken-open, taken-close, taken-register, taken-equal, taken-below, constant-room, taken-constant, number-room, taken-number, prefix-room, taken-prefix, operator-room, taken-operator}
 use Rattle.text.proofs.write.take_token.Statement.{statement}
 use Rattle.text.proofs.write.take_token.Tie as tie
 
@@ -50,6 +46,9 @@ at-height-requires-3 c κs = search needs
 enum-known-token-4 : tie.Need-enum-known-token-4
 enum-known-token-4 c = search needs
 
+with-atom-requires : tie.Need-with-atom-requires
+with-atom-requires c κs = search needs
+
 enum-known-token-5 : tie.Need-enum-known-token-5
 enum-known-token-5 c = search needs
 
@@ -68,8 +67,14 @@ enum-told-3 c = search needs
 enum-told-4 : tie.Need-enum-told-4
 enum-told-4 c = search needs
 
+with-atom-requires-2 : tie.Need-with-atom-requires-2
+with-atom-requires-2 c κs = search needs
+
 enum-told-5 : tie.Need-enum-told-5
 enum-told-5 c = search needs
+
+with-atom-requires-3 : tie.Need-with-atom-requires-3
+with-atom-requires-3 c κs = search needs
 
 returns : tie.Need-returns
 returns c = took (c .enum-told .given .1) (taken-space _ _ _ _ (c .before .before .before .pre .fits))
@@ -84,7 +89,7 @@ returns-4 : tie.Need-returns-4
 returns-4 c = let told = c .before .before .before .before .before .before .before .token3 .given .1 in took told (with-pen (c .at-height3 .ensures) (taken-operator _ _ _ _ _ (c .before .before .before .operator-number .result) (c .before .before .operator-level .result) (c .before .before .before .operator-number .ensures) (c .before .before .operator-level .ensures) (ready-as told (c .before .before .before .before .before .before .before .before .before .before .pre)) _ _ _ _ (c .before .join .ensures)))
 
 returns-5 : tie.Need-returns-5
-returns-5 c = took (c .before .token4 .given .1) (taken-register _ _ _ _ _ (c .before .before .before .before .pre .fits))
+returns-5 c = took (c .before .before .token4 .given .1) (with-pen (c .with-atom .ensures) (taken-register _ _ _ _ _ (c .before .before .before .before .before .pre .fits)))
 
 returns-6 : tie.Need-returns-6
 returns-6 c = let told = c .before .before .before .before .token5 .given .1 in took told (with-pen (c .at-height4 .ensures) (taken-number _ _ _ _ _ _ _ (ready-as told (c .before .before .before .before .before .before .before .pre)) (c .before .put-test .ensures)))
@@ -96,10 +101,10 @@ returns-8 : tie.Need-returns-8
 returns-8 c = took (c .enum-told3 .given .1) (taken-close _ _ _ _ (c .before .before .before .pre .fits))
 
 returns-9 : tie.Need-returns-9
-returns-9 c = took (c .enum-told4 .given .1) (taken-equal _ _ _ _ (c .before .before .before .pre .fits))
+returns-9 c = took (c .before .enum-told4 .given .1) (with-pen (c .with-atom2 .ensures) (taken-equal _ _ _ _ (c .before .before .before .before .pre .fits)))
 
 returns-10 : tie.Need-returns-10
-returns-10 c = took (c .enum-told5 .given .1) (taken-below _ _ _ _ (c .before .before .before .pre .fits))
+returns-10 c = took (c .before .enum-told5 .given .1) (with-pen (c .with-atom3 .ensures) (taken-below _ _ _ _ (c .before .before .before .before .pre .fits)))
 
 pub take-token-spec : {M : Type 1} → statement M
 take-token-spec =
@@ -119,13 +124,16 @@ take-token-spec =
     join-requires
     at-height-requires-3
     enum-known-token-4
+    with-atom-requires
     enum-known-token-5
     put-test-requires
     at-height-requires-4
     enum-told-2
     enum-told-3
     enum-told-4
+    with-atom-requires-2
     enum-told-5
+    with-atom-requires-3
     returns
     returns-2
     returns-3
