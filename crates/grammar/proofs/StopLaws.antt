@@ -2,7 +2,7 @@
 --     NoToken, no-move, touching-none      no token begins with this byte here
 --     word-stuck                  a word breaks off
 --     register-stuck              r has no number
---     agreeing-first, agreeing-most, agreeing-within, agreeing-all      a word's letters that stand there
+--     agreeing-first, agreeing-most, agreeing-within, agreeing-same, agreeing-all      a word's letters that stand there
 -- Assumes nothing.
 use mathlib.Core.Path.{_≡_, refl, sym, subst, ap, _∙_}
 use mathlib.Core.Logic.{_≢_}
@@ -11,7 +11,7 @@ use mathlib.Core.Option.{Option, none, some}
 use mathlib.Core.List.{List, [], _∷_, _++_}
 use Prim.Native.Nat.{ℕ, zero, suc, _+_, _-_, _≤_, _<_}
 use native.Mathlib.Omega.{arith}
-use lib.ListN.{length, getD, drop}
+use lib.ListN.{length, getD, take, drop}
 use lib.Dec.{eqb}
 use borrow.Author.Tests.{eqb-true, eqb-false, eq-eqb, ne-eqb}
 use Rattle.spec.proofs.BoolLaws.{clash}
@@ -115,6 +115,17 @@ agreeing-within (x ∷ xs) (b ∷ bs) = go (eqb b x) (agreeing-within xs bs)
     go false h = omega arith
 
 -- all letters stand there
+pub agreeing-same : (xs bs : List ℕ) → take (agreeing xs bs) xs ≡ take (agreeing xs bs) bs
+unfolding agreeing
+agreeing-same [] bs = refl
+agreeing-same (x ∷ xs) [] = refl
+agreeing-same (x ∷ xs) (b ∷ bs) = go (eqb b x) refl (agreeing-same xs bs)
+  where
+    go : (y : Bool) → eqb b x ≡ y → take (agreeing xs bs) xs ≡ take (agreeing xs bs) bs
+        → take (cond y (suc (agreeing xs bs)) 0) (x ∷ xs) ≡ take (cond y (suc (agreeing xs bs)) 0) (b ∷ bs)
+    go true e next = ap (λ z. z ∷ take (agreeing xs bs) xs) (sym (eqb-true b x e)) ∙ ap (λ l. b ∷ l) next
+    go false e next = refl
+
 pub agreeing-all : (xs bs : List ℕ) → agreeing xs bs ≡ length xs → bs ≡ xs ++ drop (length xs) bs
 unfolding agreeing
 agreeing-all [] bs e = refl

@@ -3,6 +3,7 @@ pub mod LastLaws
 pub mod MarkLaws
 pub mod NodeLaws
 pub mod StandLaws
+pub mod BegunLaws
 pub mod ExpectedLaws
 pub mod AnswerLaws
 pub mod CompiledCases

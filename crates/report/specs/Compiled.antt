@@ -1,22 +1,21 @@
 -- What the compile program prints for the bytes of its input: the nodes of a rule typed as text, or where the text went wrong and what may stand
 -- there (document 02, 2026-04).
+-- ---- the text of an input: its bytes without the end of the line
 use mathlib.Core.Bool.{Bool, true, cond, _&&_}
 use mathlib.Core.List.{List, [], _∷_, _++_, map}
-use Prim.Native.Nat.{ℕ, _-_}
+use Prim.Native.Nat.{ℕ, zero, suc, _-_}
 use Prim.Native.Char.{code}
-use Prim.Native.String.{String}
 use lib.ListN.{length, getD, take, drop, replicate}
-use lib.Dec.{eqb, leb}
+use lib.Dec.{eqb, ltb, leb}
 use Rattle.io.specs.Digits.{digits}
 use Rattle.spec.specs.Ascii.{ascii}
 use Rattle.spec.specs.Questions.{Answer, passed, refused, Checked}
 use Rattle.spec.specs.Rule.{form32}
+use Rattle.grammar.specs.Bytes.{agreeing}
 use Rattle.grammar.specs.Scan.{question16}
 use Rattle.grammar.specs.Texting.{texting}
 use Rattle.print.specs.Decimal.{space, newline, refusedText}
 use Rattle.print.specs.Written.{eachOf}
-
--- ---- the text of an input: its bytes without the end of the line
 
 abbrev pub withoutLast : (byte : ℕ) → List ℕ → List ℕ
 withoutLast b bs = cond (eqb (getD bs (length bs - 1) 0) b) (take (length bs - 1) bs) bs
@@ -81,20 +80,37 @@ candidates =
     ∷ itself (ascii "and") ∷ itself (ascii "or") ∷ itself (ascii "implies") ∷ itself (ascii "(") ∷ itself (ascii ")") ∷ itself (ascii "=")
     ∷ itself (ascii "<") ∷ record { tried = ascii "0"; shown = ascii "digit" } ∷ record { tried = ascii " "; shown = ascii "space" } ∷ []
 
--- the words for those that may stand here, each after a space
-abbrev pub itemText : List ℕ → (place : ℕ) → Candidate → List ℕ
-itemText text i c = cond (mayStand text i (c .tried)) (space ∷ c .shown) []
+-- it may stand at `start`, where so many of its bytes are typed already, and not all
+abbrev pub isBegun : List ℕ → (start typed : ℕ) → (bytes : List ℕ) → Bool
+isBegun text i n bs = ltb n (length bs) && eqb (agreeing bs (drop i text)) n && mayStand text i bs
 
-unfoldable pub itemsText : List ℕ → (place count : ℕ) → List ℕ
-itemsText text i n = eachOf (λ k. itemText text i (getD candidates k (itself []))) n
+-- the words for those that are, each after a space
+abbrev pub itemText : List ℕ → (start typed : ℕ) → Candidate → List ℕ
+itemText text i n c = cond (isBegun text i n (c .tried)) (space ∷ c .shown) []
 
--- within a word there is none
-abbrev pub orLetter : List ℕ → List ℕ
-orLetter [] = ascii " another letter"
-orLetter (b ∷ bs) = b ∷ bs
+unfoldable pub itemsText : List ℕ → (start typed count : ℕ) → List ℕ
+itemsText text i n m = eachOf (λ k. itemText text i n (getD candidates k (itself []))) m
+
+abbrev pub isLetter : ℕ → Bool
+isLetter b = leb (code "a") b && leb b (code "z")
+
+-- how many letters stand just before the place
+unfoldable pub lettersBefore : List ℕ → (place : ℕ) → ℕ
+lettersBefore text zero = 0
+lettersBefore text (suc i) = cond (isLetter (getD text i 0)) (suc (lettersBefore text i)) 0
+
+abbrev pub orElse : List ℕ → List ℕ → List ℕ
+orElse [] b = b
+orElse (x ∷ a) b = x ∷ a
+
+-- within a word the word that it is to be; else what may stand at the place
+unfoldable pub expectedItems : List ℕ → (place : ℕ) → List ℕ
+expectedItems text i =
+    let n = lettersBefore text i in
+    orElse (itemsText text (i - n) n (length candidates)) (itemsText text i 0 (length candidates))
 
 unfoldable pub expectedText : List ℕ → (place : ℕ) → List ℕ
-expectedText text i = ascii "expected:" ++ orLetter (itemsText text i (length candidates)) ++ newline ∷ []
+expectedText text i = ascii "expected:" ++ expectedItems text i ++ newline ∷ []
 
 -- ---- the answer
 

@@ -2,6 +2,8 @@
 use print::add_bytes;
 use rule::answer::Answer;
 use text::scan::ask_grammar;
+use text::token::is_between;
+use text::token::matching;
 ghost use mathlib.Core.Path.{_≡_};
 ghost use mathlib.Core.Bool.{cond};
 ghost use mathlib.Core.List.{[], _∷_};
@@ -9,7 +11,7 @@ ghost use Prim.Native.Nat.{_+_, _*_, _≤_, _<_};
 ghost use lib.ListN.{length, getD};
 ghost use Rattle.print.specs.Decimal.{space};
 ghost use Rattle.print.specs.Written.{Filled};
-ghost use Rattle.report.specs.Compiled.{mayStand, itself, candidates, itemText, itemsText, orLetter, expectedText};
+ghost use Rattle.report.specs.Compiled.{mayStand, itself, candidates, isBegun, itemText, itemsText, isLetter, lettersBefore, expectedItems, expectedText};
 
 fn least(a: usize, b: usize) -> usize
     ensures { λ r. ⌜ (r ≤ a) × (r ≤ b) × (r < a → r ≡ b) ⌝ }
@@ -44,19 +46,35 @@ fn may_stand(text: &[u8], place: usize, bytes: &[u8]) -> bool
     stands(text, place, bytes, &mut tried)
 }
 
-// The word for these bytes, where they may stand.
+// They may stand at `start`, where so many of them are typed already, and not all.
+fn is_begun(text: &[u8], start: usize, typed: usize, bytes: &[u8]) -> bool
+    requires { ⌜ (length (now text) ≤ 65000) × (length (now bytes) ≤ 8) ⌝ }
+    ensures { λ r. ⌜ r ≡ isBegun (now (text .entry)) start typed (now (bytes .entry)) ⌝ }
+{
+    if bytes.len() <= typed {
+        return false;
+    }
+    let from = least(start, text.len());
+    if matching(text, from, bytes) != typed {
+        return false;
+    }
+    may_stand(text, start, bytes)
+}
+
+// The word for these bytes, where they are.
 fn add_item(
     text: &[u8],
-    place: usize,
+    start: usize,
+    typed: usize,
     tried: &[u8],
     shown: &[u8],
     at: usize,
     out: &mut [u8],
 ) -> usize
     requires { ⌜ (length (now text) ≤ 65000) × (length (now tried) ≤ 8) × (length (now shown) ≤ 8) × (at + 9 ≤ length (now out)) ⌝ }
-    ensures { λ r. ⌜ Filled 9 (cond (mayStand (now (text .entry)) place (now (tried .entry))) (space ∷ now (shown .entry)) []) at r (now (out .entry)) (now (out .exit)) ⌝ }
+    ensures { λ r. ⌜ Filled 9 (cond (isBegun (now (text .entry)) start typed (now (tried .entry))) (space ∷ now (shown .entry)) []) at r (now (out .entry)) (now (out .exit)) ⌝ }
 {
-    if may_stand(text, place, tried) {
+    if is_begun(text, start, typed, tried) {
         let end = add_bytes(b" ", at, out);
         return add_bytes(shown, end, out);
     }
@@ -64,60 +82,92 @@ fn add_item(
 }
 
 // Candidate number k.
-fn add_candidate(text: &[u8], place: usize, k: usize, at: usize, out: &mut [u8]) -> usize
+fn add_candidate(
+    text: &[u8],
+    start: usize,
+    typed: usize,
+    k: usize,
+    at: usize,
+    out: &mut [u8],
+) -> usize
     requires { ⌜ (length (now text) ≤ 65000) × (k < length candidates) × (at + 9 ≤ length (now out)) ⌝ }
-    ensures { λ r. ⌜ Filled 9 (itemText (now (text .entry)) place (getD candidates k (itself []))) at r (now (out .entry)) (now (out .exit)) ⌝ }
+    ensures { λ r. ⌜ Filled 9 (itemText (now (text .entry)) start typed (getD candidates k (itself []))) at r (now (out .entry)) (now (out .exit)) ⌝ }
 {
     match k {
-        0 => add_item(text, place, b"true", b"true", at, out),
-        1 => add_item(text, place, b"false", b"false", at, out),
-        2 => add_item(text, place, b"r", b"register", at, out),
-        3 => add_item(text, place, b"not", b"not", at, out),
-        4 => add_item(text, place, b"wprev", b"wprev", at, out),
-        5 => add_item(text, place, b"prev", b"prev", at, out),
-        6 => add_item(text, place, b"once", b"once", at, out),
-        7 => add_item(text, place, b"sofar", b"sofar", at, out),
-        8 => add_item(text, place, b"since", b"since", at, out),
-        9 => add_item(text, place, b"and", b"and", at, out),
-        10 => add_item(text, place, b"or", b"or", at, out),
-        11 => add_item(text, place, b"implies", b"implies", at, out),
-        12 => add_item(text, place, b"(", b"(", at, out),
-        13 => add_item(text, place, b")", b")", at, out),
-        14 => add_item(text, place, b"=", b"=", at, out),
-        15 => add_item(text, place, b"<", b"<", at, out),
-        16 => add_item(text, place, b"0", b"digit", at, out),
-        _ => add_item(text, place, b" ", b"space", at, out),
+        0 => add_item(text, start, typed, b"true", b"true", at, out),
+        1 => add_item(text, start, typed, b"false", b"false", at, out),
+        2 => add_item(text, start, typed, b"r", b"register", at, out),
+        3 => add_item(text, start, typed, b"not", b"not", at, out),
+        4 => add_item(text, start, typed, b"wprev", b"wprev", at, out),
+        5 => add_item(text, start, typed, b"prev", b"prev", at, out),
+        6 => add_item(text, start, typed, b"once", b"once", at, out),
+        7 => add_item(text, start, typed, b"sofar", b"sofar", at, out),
+        8 => add_item(text, start, typed, b"since", b"since", at, out),
+        9 => add_item(text, start, typed, b"and", b"and", at, out),
+        10 => add_item(text, start, typed, b"or", b"or", at, out),
+        11 => add_item(text, start, typed, b"implies", b"implies", at, out),
+        12 => add_item(text, start, typed, b"(", b"(", at, out),
+        13 => add_item(text, start, typed, b")", b")", at, out),
+        14 => add_item(text, start, typed, b"=", b"=", at, out),
+        15 => add_item(text, start, typed, b"<", b"<", at, out),
+        16 => add_item(text, start, typed, b"0", b"digit", at, out),
+        _ => add_item(text, start, typed, b" ", b"space", at, out),
     }
 }
 
-fn add_candidates(text: &[u8], place: usize, at: usize, out: &mut [u8]) -> usize
+fn add_candidates(text: &[u8], start: usize, typed: usize, at: usize, out: &mut [u8]) -> usize
     requires { ⌜ (length (now text) ≤ 65000) × (at + 162 ≤ length (now out)) ⌝ }
-    ensures { λ r. ⌜ Filled 162 (itemsText (now (text .entry)) place (length candidates)) at r (now (out .entry)) (now (out .exit)) ⌝ }
+    ensures { λ r. ⌜ Filled 162 (itemsText (now (text .entry)) start typed (length candidates)) at r (now (out .entry)) (now (out .exit)) ⌝ }
 {
     let mut end = at;
     let mut k: usize = 0;
     while k < 18 {
-        end = add_candidate(text, place, k, end, out);
+        end = add_candidate(text, start, typed, k, end, out);
         k += 1;
     }
     end
 }
 
-// Within a word there is none.
-fn add_items(text: &[u8], place: usize, at: usize, out: &mut [u8]) -> usize
-    requires { ⌜ (length (now text) ≤ 65000) × (at + 177 ≤ length (now out)) ⌝ }
-    ensures { λ r. ⌜ Filled 177 (orLetter (itemsText (now (text .entry)) place (length candidates))) at r (now (out .entry)) (now (out .exit)) ⌝ }
+fn is_letter(b: u8) -> bool
+    ensures { λ r. ⌜ r ≡ isLetter b ⌝ }
 {
-    let end = add_candidates(text, place, at, out);
+    is_between(b'a', b, b'z')
+}
+
+// How many letters stand just before the place.
+fn letters_before(text: &[u8], place: usize) -> usize
+    ensures { λ r. ⌜ (r ≤ place) × (r ≡ lettersBefore (now (text .entry)) place) ⌝ }
+{
+    let mut n: usize = 0;
+    while n < place {
+        let i = place - n - 1;
+        if text.len() <= i {
+            return n;
+        }
+        if !is_letter(text[i]) {
+            return n;
+        }
+        n += 1;
+    }
+    n
+}
+
+// Within a word the word that it is to be; else what may stand at the place.
+fn add_items(text: &[u8], place: usize, at: usize, out: &mut [u8]) -> usize
+    requires { ⌜ (length (now text) ≤ 65000) × (at + 162 ≤ length (now out)) ⌝ }
+    ensures { λ r. ⌜ Filled 162 (expectedItems (now (text .entry)) place) at r (now (out .entry)) (now (out .exit)) ⌝ }
+{
+    let n = letters_before(text, place);
+    let end = add_candidates(text, place - n, n, at, out);
     if end == at {
-        return add_bytes(b" another letter", end, out);
+        return add_candidates(text, place, 0, at, out);
     }
     end
 }
 
 pub(crate) fn add_expected(text: &[u8], place: usize, at: usize, out: &mut [u8]) -> usize
-    requires { ⌜ (length (now text) ≤ 65000) × (at + 187 ≤ length (now out)) ⌝ }
-    ensures { λ r. ⌜ Filled 187 (expectedText (now (text .entry)) place) at r (now (out .entry)) (now (out .exit)) ⌝ }
+    requires { ⌜ (length (now text) ≤ 65000) × (at + 172 ≤ length (now out)) ⌝ }
+    ensures { λ r. ⌜ Filled 172 (expectedText (now (text .entry)) place) at r (now (out .entry)) (now (out .exit)) ⌝ }
 {
     let start = add_bytes(b"expected:", at, out);
     let end = add_items(text, place, start, out);

@@ -69,7 +69,7 @@ fn add_nodes(words: &[u32], n: usize, out: &mut [u8]) -> usize
 
 // What is wrong.
 fn add_reason(text: &[u8], question: u32, place: usize, at: usize, out: &mut [u8]) -> usize
-    requires { ⌜ (length (now text) ≤ 65000) × (at + 322 ≤ length (now out)) ⌝ }
+    requires { ⌜ (length (now text) ≤ 65000) × (at + 307 ≤ length (now out)) ⌝ }
     ensures { λ r. ⌜ Added (reasonText (now (text .entry)) question place) at r (now (out .entry)) (now (out .exit)) ⌝ }
 {
     if question == 16 {

@@ -1,5 +1,6 @@
 // The text, and a mark under one of its bytes.
 use print::add_bytes;
+use text::token::is_between;
 ghost use mathlib.Core.Path.{_≡_};
 ghost use mathlib.Core.List.{map};
 ghost use Prim.Native.Nat.{_+_, _-_, _≤_, _<_};
@@ -30,10 +31,7 @@ fn shown_count(length: usize, from: usize) -> usize
 fn show(b: u8) -> u8
     ensures { λ r. ⌜ r ≡ visible b ⌝ }
 {
-    if b < b' ' {
-        return b'?';
-    }
-    if b'~' < b { b'?' } else { b }
+    if is_between(b' ', b, b'~') { b } else { b'?' }
 }
 
 // The n bytes from `from` on, as a terminal shows them.

@@ -1,7 +1,8 @@
 // The tokens of a text, and what they are read from: digits and letters.
 ghost use mathlib.Core.Path.{_≡_};
-ghost use mathlib.Core.Bool.{true, false};
+ghost use mathlib.Core.Bool.{true, false, _&&_};
 ghost use Prim.Native.Nat.{_+_, _-_, _≤_, _<_};
+ghost use lib.Dec.{leb};
 ghost use lib.ListN.{length, getD, drop};
 ghost use Rattle.grammar.specs.Grammar.{isDigit};
 ghost use Rattle.grammar.specs.Bytes.{leadingFrom, digitsIn, agreeing};
@@ -54,10 +55,16 @@ pub(crate) fn less_one(n: usize) -> usize
     if n == 0 { 0 } else { n - 1 }
 }
 
+pub fn is_between(low: u8, b: u8, high: u8) -> bool
+    ensures { λ r. ⌜ r ≡ leb low b && leb b high ⌝ }
+{
+    low <= b && b <= high
+}
+
 pub(crate) fn is_digit(b: u8) -> bool
     ensures { λ r. ⌜ r ≡ isDigit b ⌝ }
 {
-    b'0' <= b && b <= b'9'
+    is_between(b'0', b, b'9')
 }
 
 // Any number of digits has a value that fits: above 16,383 it counts as 16,384, which no node holds.
@@ -87,7 +94,7 @@ pub(crate) fn digits_at(text: &[u8], at: usize) -> Digits
 }
 
 // How many of these letters stand at `at`.
-fn matching(text: &[u8], at: usize, letters: &[u8]) -> usize
+pub fn matching(text: &[u8], at: usize, letters: &[u8]) -> usize
     requires { ⌜ at ≤ length (now text) ⌝ }
     ensures { λ r. ⌜ r ≡ agreeing (now (letters .entry)) (drop at (now (text .entry))) ⌝ }
 {

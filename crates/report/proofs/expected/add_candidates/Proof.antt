@@ -12,14 +12,14 @@ use Rattle.report.proofs.expected.add_candidates.Statement.{statement}
 use Rattle.report.proofs.expected.add_candidates.Tie as tie
 
 abbrev Inv-loop : tie.InvT-loop
-Inv-loop text place at out₀ end₀ k₀ out end k =
-    (length text ≤ 65000) × (at + 162 ≤ length out₀) × (k ≤ 18) × (length out ≡ length out₀) × Filled (9 * k) (itemsText text place k) at end out₀ out
+Inv-loop text start typed at out₀ end₀ k₀ out end k =
+    (length text ≤ 65000) × (at + 162 ≤ length out₀) × (k ≤ 18) × (length out ≡ length out₀) × Filled (9 * k) (itemsText text start typed k) at end out₀ out
 
 abbrev μ-loop : tie.MeasureT-loop
-μ-loop text place at out₀ end₀ k₀ out end k = 18 - k
+μ-loop text start typed at out₀ end₀ k₀ out end k = 18 - k
 
 loop-holds : tie.Need-loop-holds Inv-loop μ-loop
-loop-holds c = (search needs, search needs, search needs, search needs, items-start (c .before .before .args .text .now) (c .before .before .args .place) (c .before .before .args .at) (c .before .before .args .out .now))
+loop-holds c = (search needs, search needs, search needs, search needs, items-start (c .before .before .args .text .now) (c .before .before .args .start) (c .before .before .args .typed) (c .before .before .args .at) (c .before .before .args .out .now))
 
 add-candidate-requires : tie.Need-add-candidate-requires Inv-loop μ-loop
 add-candidate-requires c κs = let n = candidate-count in (search needs, omega arith, filled-room 9 (omega arith) (c .before .before .loop .inv .4))
@@ -31,13 +31,13 @@ loop-less : tie.Need-loop-less Inv-loop μ-loop
 loop-less c = search needs
 
 loop-again : tie.Need-loop-again Inv-loop μ-loop
-loop-again c = (search needs, search needs, search needs, c .before .before .add-candidate .kept .1 .1 .1 .1 .0 ∙ c .before .before .before .before .before .loop .inv .3, items-next (c .before .before .before .before .before .before .before .before .args .text .now) (c .before .before .before .before .before .before .before .before .args .place) (c .before .before .before .before .before .before .before .before .args .at) (c .before .before .before .before .before .before .before .before .args .out .now) (c .before .before .before .before .before .loop .k) (c .before .before .before .before .before .loop .end) (c .before .before .add-candidate .result) (c .before .before .before .before .before .loop .out) (c .before .before .add-candidate .last .1 .1 .1 .1 .0) (omega arith) (c .before .before .before .before .before .loop .inv .4) (c .before .before .add-candidate .ensures))
+loop-again c = (search needs, search needs, search needs, c .before .before .add-candidate .kept .1 .1 .1 .1 .1 .0 ∙ c .before .before .before .before .before .loop .inv .3, items-next (c .before .before .before .before .before .before .before .before .args .text .now) (c .before .before .before .before .before .before .before .before .args .start) (c .before .before .before .before .before .before .before .before .args .typed) (c .before .before .before .before .before .before .before .before .args .at) (c .before .before .before .before .before .before .before .before .args .out .now) (c .before .before .before .before .before .loop .k) (c .before .before .before .before .before .loop .end) (c .before .before .add-candidate .result) (c .before .before .before .before .before .loop .out) (c .before .before .add-candidate .last .1 .1 .1 .1 .1 .0) (omega arith) (c .before .before .before .before .before .loop .inv .4) (c .before .before .add-candidate .ensures))
 
 same-length : tie.Need-same-length Inv-loop μ-loop
 same-length c = search needs
 
 returns : tie.Need-returns Inv-loop μ-loop
-returns c = items-end (c .before .before .before .before .args .text .now) (c .before .before .before .before .args .place) (c .before .before .before .before .args .at) (c .before .before .before .before .args .out .now) (c .before .loop .k) (c .before .loop .end) (c .before .loop .out) (omega arith) (c .before .loop .inv .4)
+returns c = items-end (c .before .before .before .before .args .text .now) (c .before .before .before .before .args .start) (c .before .before .before .before .args .typed) (c .before .before .before .before .args .at) (c .before .before .before .before .args .out .now) (c .before .loop .k) (c .before .loop .end) (c .before .loop .out) (omega arith) (c .before .loop .inv .4)
 
 pub add-candidates-spec : {M : Type 1} → statement M
 add-candidates-spec =

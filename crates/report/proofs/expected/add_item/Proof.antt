@@ -7,8 +7,8 @@ use borrow.Author.Needs.{needs}
 use Rattle.report.proofs.expected.add_item.Statement.{statement}
 use Rattle.report.proofs.expected.add_item.Tie as tie
 
-may-stand-requires : tie.Need-may-stand-requires
-may-stand-requires c κs = search needs
+is-begun-requires : tie.Need-is-begun-requires
+is-begun-requires c κs = search needs
 
 slice-aggregate-add-bytes : tie.Need-slice-aggregate-add-bytes
 slice-aggregate-add-bytes c = search needs
@@ -23,16 +23,16 @@ same-length : tie.Need-same-length
 same-length c = search needs
 
 returns : tie.Need-returns
-returns c = item-stands _ (c .before .before .before .before .before .before .before .before .before .before .before .before .before .before .before .args .shown .now) (sym (c .before .before .before .before .before .before .before .before .before .before .may-stand .ensures) ∙ c .before .before .before .before .before .before .before .before .before .if1 .taken) (filled-then (omega arith) (filled-as 1 (omega arith) (c .before .before .before .before .before .before .add-bytes .ensures)) (filled-as 8 (c .before .before .before .before .before .before .before .before .before .before .before .before .before .before .before .pre .2) (c .before .before .add-bytes2 .ensures)))
+returns c = item-stands _ (c .before .before .before .before .before .before .before .before .before .before .before .before .before .before .before .args .shown .now) (sym (c .before .before .before .before .before .before .before .before .before .before .is-begun .ensures) ∙ c .before .before .before .before .before .before .before .before .before .if1 .taken) (filled-then (omega arith) (filled-as 1 (omega arith) (c .before .before .before .before .before .before .add-bytes .ensures)) (filled-as 8 (c .before .before .before .before .before .before .before .before .before .before .before .before .before .before .before .pre .2) (c .before .before .add-bytes2 .ensures)))
 
 returns-2 : tie.Need-returns-2
-returns-2 c = item-not _ (c .before .before .before .before .before .before .args .shown .now) (c .before .before .before .before .before .before .args .at) (c .before .before .before .before .before .before .args .out .now) (sym (c .before .may-stand .ensures) ∙ c .if1 .left)
+returns-2 c = item-not _ (c .before .before .before .before .before .before .args .shown .now) (c .before .before .before .before .before .before .args .at) (c .before .before .before .before .before .before .args .out .now) (sym (c .before .is-begun .ensures) ∙ c .if1 .left)
 
 pub add-item-spec : {M : Type 1} → statement M
 add-item-spec =
     tie.close
     (tie.spec
-    may-stand-requires
+    is-begun-requires
     slice-aggregate-add-bytes
     add-bytes-requires
     add-bytes-requires-2
