@@ -19,13 +19,22 @@ slice-aggregate-add-bytes : tie.Need-slice-aggregate-add-bytes
 slice-aggregate-add-bytes c = search needs
 
 add-bytes-requires : tie.Need-add-bytes-requires
-add-bytes-requires c κs = let e = ap length (hex-text (c .before .before .before .before .before .args .word) _ _ (omega arith) (c .before .before .hex .ensures .1 .0) (c .before .before .hex .ensures .1 .1)) in let n = hex-length (c .before .before .before .before .before .args .word) in let room = c .before .before .before .before .before .pre in omega arith
+add-bytes-requires c κs =
+    let s = c .before .before .before .before .before in
+    let hex = c .before .before .hex in
+    let e = ap length (hex-text (s .args .word) _ _ (omega arith) (hex .ensures .1 .0) (hex .ensures .1 .1)) in
+    let n = hex-length (s .args .word) in
+    let room = s .pre in
+    omega arith
 
 same-length : tie.Need-same-length
 same-length c = search needs
 
 returns : tie.Need-returns
-returns c = filled-as 8 (let n = hex-length (c .before .before .before .before .before .before .before .before .args .word) in omega arith) (added-as _ (hexText (c .before .before .before .before .before .before .before .before .args .word)) _ _ _ _ (hex-text (c .before .before .before .before .before .before .before .before .args .word) _ _ (omega arith) (c .before .before .before .before .before .hex .ensures .1 .0) (c .before .before .before .before .before .hex .ensures .1 .1)) (c .before .before .add-bytes .ensures))
+returns c =
+    let s = c .before .before .before .before .before .before .before .before in
+    let hex = c .before .before .before .before .before .hex in
+    filled-as 8 (let n = hex-length (s .args .word) in omega arith) (added-as _ (hexText (s .args .word)) _ _ _ _ (hex-text (s .args .word) _ _ (omega arith) (hex .ensures .1 .0) (hex .ensures .1 .1)) (c .before .before .add-bytes .ensures))
 
 pub add-hex-spec : {M : Type 1} → statement M
 add-hex-spec =

@@ -36,13 +36,20 @@ loop-less : tie.Need-loop-less Inv-loop μ-loop
 loop-less c = search needs
 
 loop-again : tie.Need-loop-again Inv-loop μ-loop
-loop-again c = (search needs, search needs, search needs, c .before .before .add-node .kept .1 .1 .0 ∙ c .before .before .before .before .before .before .loop .inv .3, each-next (nodeAt (c .before .before .before .before .before .before .before .before .before .args .words .now)) 9 0 (c .before .before .before .before .before .before .before .before .before .args .out .now) (c .before .before .before .before .before .before .loop .i) (c .before .before .before .before .before .before .loop .end) (c .before .before .add-node .result) (c .before .before .before .before .before .before .loop .out) (c .before .before .add-node .last .1 .1 .0) (omega arith) (c .before .before .before .before .before .before .loop .inv .4) (c .before .before .add-node .ensures))
+loop-again c =
+    let s = c .before .before .before .before .before .before .before .before .before in
+    let l = c .before .before .before .before .before .before .loop in
+    let add-node = c .before .before .add-node in
+    (search needs, search needs, search needs, add-node .kept .1 .1 .0 ∙ l .inv .3, each-next (nodeAt (s .args .words .now)) 9 0 (s .args .out .now) (l .i) (l .end) (add-node .result) (l .out) (add-node .last .1 .1 .0) (omega arith) (l .inv .4) (add-node .ensures))
 
 same-length : tie.Need-same-length Inv-loop μ-loop
 same-length c = search needs
 
 returns : tie.Need-returns Inv-loop μ-loop
-returns c = let all : c .before .loop .i ≡ c .before .before .before .before .args .n = omega arith in added-as _ _ _ _ _ _ (ap (eachOf (nodeAt (c .before .before .before .before .args .words .now))) all ∙ nodes-all (c .before .before .before .before .args .words .now) (c .before .before .before .before .args .n) (c .before .loop .inv .0)) (c .before .loop .inv .4 .added)
+returns c =
+    let s = c .before .before .before .before in
+    let all : c .before .loop .i ≡ s .args .n = omega arith in
+    added-as _ _ _ _ _ _ (ap (eachOf (nodeAt (s .args .words .now))) all ∙ nodes-all (s .args .words .now) (s .args .n) (c .before .loop .inv .0)) (c .before .loop .inv .4 .added)
 
 pub add-nodes-spec : {M : Type 1} → statement M
 add-nodes-spec =

@@ -16,7 +16,9 @@ same-length : tie.Need-same-length
 same-length c = search needs
 
 returns : tie.Need-returns
-returns c = added-as _ _ _ _ _ _ (reason-grammar (c .before .before .before .before .before .before .before .before .before .before .before .args .text .now) (c .before .before .before .before .before .before .before .before .before .before .before .args .question) (c .before .before .before .before .before .before .before .before .before .before .before .args .place) (c .before .before .before .before .before .before .before .before .if1 .taken)) (filled-then (omega arith) (c .before .before .before .before .before .before .add-mark .ensures) (c .before .before .add-expected .ensures) .added)
+returns c =
+    let s = c .before .before .before .before .before .before .before .before .before .before .before in
+    added-as _ _ _ _ _ _ (reason-grammar (s .args .text .now) (s .args .question) (s .args .place) (c .before .before .before .before .before .before .before .before .if1 .taken)) (filled-then (omega arith) (c .before .before .before .before .before .before .add-mark .ensures) (c .before .before .add-expected .ensures) .added)
 
 add-mark-requires-2 : tie.Need-add-mark-requires-2
 add-mark-requires-2 c κs = search needs
@@ -31,7 +33,9 @@ same-length-2 : tie.Need-same-length-2
 same-length-2 c = search needs
 
 returns-2 : tie.Need-returns-2
-returns-2 c = added-as _ _ _ _ _ _ (reason-range (c .before .before .before .before .before .before .before .before .before .before .before .before .before .args .text .now) (c .before .before .before .before .before .before .before .before .before .before .before .before .before .args .question) (c .before .before .before .before .before .before .before .before .before .before .before .before .before .args .place) (c .before .before .before .before .before .before .before .before .before .before .if1 .left) (c .before .before .before .before .before .before .before .before .before .if2 .taken)) (filled-last (omega arith) (c .before .before .before .before .before .before .before .add-mark2 .ensures) (c .before .before .add-bytes .ensures))
+returns-2 c =
+    let s = c .before .before .before .before .before .before .before .before .before .before .before .before .before in
+    added-as _ _ _ _ _ _ (reason-range (s .args .text .now) (s .args .question) (s .args .place) (c .before .before .before .before .before .before .before .before .before .before .if1 .left) (c .before .before .before .before .before .before .before .before .before .if2 .taken)) (filled-last (omega arith) (c .before .before .before .before .before .before .before .add-mark2 .ensures) (c .before .before .add-bytes .ensures))
 
 slice-aggregate-add-bytes-2 : tie.Need-slice-aggregate-add-bytes-2
 slice-aggregate-add-bytes-2 c = search needs
@@ -43,7 +47,9 @@ same-length-3 : tie.Need-same-length-3
 same-length-3 c = search needs
 
 returns-3 : tie.Need-returns-3
-returns-3 c = added-as _ _ _ _ _ _ (reason-nodes (c .before .before .before .before .before .before .before .before .before .args .text .now) (c .before .before .before .before .before .before .before .before .before .args .question) (c .before .before .before .before .before .before .before .before .before .args .place) (c .before .before .before .before .before .before .if1 .left) (c .before .before .before .before .before .if2 .left)) (c .before .before .add-bytes2 .ensures)
+returns-3 c =
+    let s = c .before .before .before .before .before .before .before .before .before in
+    added-as _ _ _ _ _ _ (reason-nodes (s .args .text .now) (s .args .question) (s .args .place) (c .before .before .before .before .before .before .if1 .left) (c .before .before .before .before .before .if2 .left)) (c .before .before .add-bytes2 .ensures)
 
 pub add-reason-spec : {M : Type 1} → statement M
 add-reason-spec =

@@ -16,16 +16,29 @@ add-bytes-requires : tie.Need-add-bytes-requires
 add-bytes-requires c κs = search needs
 
 returns : tie.Need-returns
-returns c = let t = c .before .before .before .before .text-length .ensures in at-start _ _ _ _ _ (compiled-long (c .before .before .before .before .before .before .args .bytes .now) (c .before .before .before .before .text-length .result) (t .0) (t .1) (c .before .before .before .if1 .taken)) (c .add-bytes .ensures)
+returns c =
+    let text-length = c .before .before .before .before .text-length in
+    let t = text-length .ensures in
+    at-start _ _ _ _ _ (compiled-long (c .before .before .before .before .before .before .args .bytes .now) (text-length .result) (t .0) (t .1) (c .before .before .before .if1 .taken)) (c .add-bytes .ensures)
 
 slice-aggregate-put-answer : tie.Need-slice-aggregate-put-answer
-slice-aggregate-put-answer c = let t = c .before .before .text-length .ensures in part-length (c .before .before .before .before .args .bytes .now) (c .before .before .text-length .result) (t .0) (t .1)
+slice-aggregate-put-answer c =
+    let text-length = c .before .before .text-length in
+    let t = text-length .ensures in
+    part-length (c .before .before .before .before .args .bytes .now) (text-length .result) (t .0) (t .1)
 
 put-answer-requires : tie.Need-put-answer-requires
-put-answer-requires c κs = let t = c .before .before .before .text-length .ensures in let l = part-length (c .before .before .before .before .before .args .bytes .now) (c .before .before .before .text-length .result) (t .0) (t .1) in (omega arith, search needs)
+put-answer-requires c κs =
+    let text-length = c .before .before .before .text-length in
+    let t = text-length .ensures in
+    let l = part-length (c .before .before .before .before .before .args .bytes .now) (text-length .result) (t .0) (t .1) in
+    (omega arith, search needs)
 
 returns-2 : tie.Need-returns-2
-returns-2 c = let t = c .before .before .before .before .text-length .ensures in at-start _ _ _ _ _ (compiled-text (c .before .before .before .before .before .before .args .bytes .now) (c .before .before .before .before .text-length .result) (t .0) (t .1) (c .before .before .before .if1 .left)) (c .put-answer .ensures)
+returns-2 c =
+    let text-length = c .before .before .before .before .text-length in
+    let t = text-length .ensures in
+    at-start _ _ _ _ _ (compiled-text (c .before .before .before .before .before .before .args .bytes .now) (text-length .result) (t .0) (t .1) (c .before .before .before .if1 .left)) (c .put-answer .ensures)
 
 pub compile-spec : {M : Type 1} → statement M
 compile-spec =

@@ -30,7 +30,10 @@ slice-aggregate-add-nodes : tie.Need-slice-aggregate-add-nodes
 slice-aggregate-add-nodes c = search needs
 
 add-nodes-requires : tie.Need-add-nodes-requires
-add-nodes-requires c κs = let few = answer-few (c .before .before .before .before .before .before .before .before .before .before .args .text .now) _ (sym (ap countedOf (c .before .before .before .read2 .given .1)) ∙ c .before .before .before .before .before .before .read-text .ensures .0) in let kept = c .before .before .before .before .before .before .read-text .kept .1 .0 in let room = c .before .before .before .before .before .before .before .before .before .before .pre .1 in (omega arith, omega arith)
+add-nodes-requires c κs =
+    let s = c .before .before .before .before .before .before .before .before .before .before in
+    let read-text = c .before .before .before .before .before .before .read-text in
+    let few = answer-few (s .args .text .now) _ (sym (ap countedOf (c .before .before .before .read2 .given .1)) ∙ read-text .ensures .0) in let kept = read-text .kept .1 .0 in let room = s .pre .1 in (omega arith, omega arith)
 
 same-length : tie.Need-same-length
 same-length c = search needs
@@ -42,7 +45,9 @@ same-length-2 : tie.Need-same-length-2
 same-length-2 c = search needs
 
 returns-2 : tie.Need-returns-2
-returns-2 c = added-as _ _ _ _ _ _ (answer-nodes (c .before .before .before .before .before .before .before .before .before .before .before .before .before .args .text .now) _ (sym (ap countedOf (c .before .before .before .before .before .before .read2 .given .1)) ∙ c .before .before .before .before .before .before .before .before .before .read-text .ensures .0) _ _ (c .before .before .before .before .before .before .before .before .before .read-text .ensures .1 .0)) (c .before .before .add-nodes .ensures)
+returns-2 c =
+    let read-text = c .before .before .before .before .before .before .before .before .before .read-text in
+    added-as _ _ _ _ _ _ (answer-nodes (c .before .before .before .before .before .before .before .before .before .before .before .before .before .args .text .now) _ (sym (ap countedOf (c .before .before .before .before .before .before .read2 .given .1)) ∙ read-text .ensures .0) _ _ (read-text .ensures .1 .0)) (c .before .before .add-nodes .ensures)
 
 pub put-answer-spec : {M : Type 1} → statement M
 put-answer-spec =

@@ -10,7 +10,9 @@ use Rattle.report.proofs.without_last.Statement.{statement}
 use Rattle.report.proofs.without_last.Tie as tie
 
 returns : tie.Need-returns
-returns c = (omega arith, let z : c .before .args .n ≡ 0 = omega arith in subst (λ m. [] ≡ withoutLast (c .before .args .byte) (take m (c .before .args .bytes .now))) (sym z) (last-none (c .before .args .byte)))
+returns c =
+    let s = c .before in
+    (omega arith, let z : s .args .n ≡ 0 = omega arith in subst (λ m. [] ≡ withoutLast (s .args .byte) (take m (s .args .bytes .now))) (sym z) (last-none (s .args .byte)))
 
 sub-if2 : tie.Need-sub-if2
 sub-if2 c = search needs
@@ -22,10 +24,14 @@ sub-result : tie.Need-sub-result
 sub-result c = search needs
 
 returns-2 : tie.Need-returns-2
-returns-2 c = (omega arith, last-same (c .before .before .before .args .byte) (c .before .before .before .args .bytes .now) (c .before .before .before .args .n) (omega arith) (c .before .before .before .pre) (c .if2 .taken))
+returns-2 c =
+    let s = c .before .before .before in
+    (omega arith, last-same (s .args .byte) (s .args .bytes .now) (s .args .n) (omega arith) (s .pre) (c .if2 .taken))
 
 returns-3 : tie.Need-returns-3
-returns-3 c = (omega arith, last-other (c .before .before .before .args .byte) (c .before .before .before .args .bytes .now) (c .before .before .before .args .n) (omega arith) (c .before .before .before .pre) (c .if2 .left))
+returns-3 c =
+    let s = c .before .before .before in
+    (omega arith, last-other (s .args .byte) (s .args .bytes .now) (s .args .n) (omega arith) (s .pre) (c .if2 .left))
 
 pub without-last-spec : {M : Type 1} → statement M
 without-last-spec =

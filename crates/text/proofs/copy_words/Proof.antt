@@ -25,7 +25,9 @@ mul-out-2 : tie.Need-mul-out-2 Inv-loop μ-loop
 mul-out-2 c = search needs
 
 slice-write-out : tie.Need-slice-write-out Inv-loop μ-loop
-slice-write-out c = omega (arith, copied-length _ _ _ _ _ (c .before .before .loop .inv) (omega (arith, c .before .before .before .pre .0, c .before .before .before .pre .2)) (c .before .before .before .pre .1), c .before .loop-test .taken, c .before .before .before .pre .1)
+slice-write-out c =
+    let s = c .before .before .before in
+    omega (arith, copied-length _ _ _ _ _ (c .before .before .loop .inv) (omega (arith, s .pre .0, s .pre .2)) (s .pre .1), c .before .loop-test .taken, s .pre .1)
 
 add-i : tie.Need-add-i Inv-loop μ-loop
 add-i c = search needs
@@ -34,13 +36,17 @@ loop-less : tie.Need-loop-less Inv-loop μ-loop
 loop-less c = search needs
 
 loop-again : tie.Need-loop-again Inv-loop μ-loop
-loop-again c = copied-next _ _ _ _ _ (c .before .before .loop .inv) (omega (arith, c .before .before .before .pre .0, c .before .before .before .pre .2)) (c .before .before .before .pre .1) (c .before .loop-test .taken)
+loop-again c =
+    let s = c .before .before .before in
+    copied-next _ _ _ _ _ (c .before .before .loop .inv) (omega (arith, s .pre .0, s .pre .2)) (s .pre .1) (c .before .loop-test .taken)
 
 same-length : tie.Need-same-length Inv-loop μ-loop
 same-length c = copied-length _ _ _ _ _ (c .before .loop .inv) (omega (arith, c .before .before .pre .0, c .before .before .pre .2)) (c .before .before .pre .1)
 
 returns : tie.Need-returns Inv-loop μ-loop
-returns c = copied-end _ _ _ _ _ (c .before .loop .inv) (omega (arith, c .before .before .pre .0, c .before .before .pre .2)) (c .before .before .pre .1) (c .loop-test .left)
+returns c =
+    let s = c .before .before in
+    copied-end _ _ _ _ _ (c .before .loop .inv) (omega (arith, s .pre .0, s .pre .2)) (s .pre .1) (c .loop-test .left)
 
 pub copy-words-spec : {M : Type 1} → statement M
 copy-words-spec =

@@ -13,7 +13,9 @@ enum-known-grammar : tie.Need-enum-known-grammar
 enum-known-grammar c = search needs
 
 returns : tie.Need-returns
-returns c = let x = reads-grammar (c .before .before .before .before .before .before .args .text .now) (c .before .before .before .before .before .before .args .out .now) _ _ (sym (ap answerOf (c .before .grammar .given .1)) ∙ c .before .before .before .ask-grammar .ensures) in (x .answer, (x .output, reads-tell _ _ _ _ x))
+returns c =
+    let s = c .before .before .before .before .before .before in
+    let x = reads-grammar (s .args .text .now) (s .args .out .now) _ _ (sym (ap answerOf (c .before .grammar .given .1)) ∙ c .before .before .before .ask-grammar .ensures) in (x .answer, (x .output, reads-tell _ _ _ _ x))
 
 enum-told : tie.Need-enum-told
 enum-told c = search needs
@@ -25,7 +27,9 @@ enum-known-range : tie.Need-enum-known-range
 enum-known-range c = search needs
 
 returns-2 : tie.Need-returns-2
-returns-2 c = let x = reads-range (c .before .before .before .before .before .before .before .before .before .args .text .now) (c .before .before .before .before .before .before .before .before .before .args .out .now) (sym (c .before .before .before .before .before .before .ask-grammar .ensures) ∙ ap answerOf (c .before .before .before .before .enum-told .given .1)) _ _ (sym (ap answerOf (c .before .range .given .1)) ∙ c .before .before .before .ask-range .ensures) in (x .answer, (x .output, reads-tell _ _ _ _ x))
+returns-2 c =
+    let s = c .before .before .before .before .before .before .before .before .before in
+    let x = reads-range (s .args .text .now) (s .args .out .now) (sym (c .before .before .before .before .before .before .ask-grammar .ensures) ∙ ap answerOf (c .before .before .before .before .enum-told .given .1)) _ _ (sym (ap answerOf (c .before .range .given .1)) ∙ c .before .before .before .ask-range .ensures) in (x .answer, (x .output, reads-tell _ _ _ _ x))
 
 enum-told-2 : tie.Need-enum-told-2
 enum-told-2 c = search needs

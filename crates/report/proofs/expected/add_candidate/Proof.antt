@@ -173,126 +173,163 @@ same-length c = search needs
 
 returns : tie.Need-returns
 unfolding candidates
-returns c = item-at (c .before .before .before .before .before .before .before .before .before .args .text .now) (c .before .before .before .before .before .before .before .before .before .args .start) (c .before .before .before .before .before .before .before .before .before .args .typed) (c .before .before .before .before .before .before .before .before .before .args .k) 0 (c .before .before .before .before .before .before .match .keys1) (c .before .before .add-item .ensures)
+returns c =
+    let s = c .before .before .before .before .before .before .before .before .before in
+    item-at (s .args .text .now) (s .args .start) (s .args .typed) (s .args .k) 0 (c .before .before .before .before .before .before .match .keys1) (c .before .before .add-item .ensures)
 
 same-length-2 : tie.Need-same-length-2
 same-length-2 c = search needs
 
 returns-2 : tie.Need-returns-2
 unfolding candidates
-returns-2 c = item-at (c .before .before .before .before .before .before .before .before .before .args .text .now) (c .before .before .before .before .before .before .before .before .before .args .start) (c .before .before .before .before .before .before .before .before .before .args .typed) (c .before .before .before .before .before .before .before .before .before .args .k) 1 (c .before .before .before .before .before .before .match .keys2) (c .before .before .add-item2 .ensures)
+returns-2 c =
+    let s = c .before .before .before .before .before .before .before .before .before in
+    item-at (s .args .text .now) (s .args .start) (s .args .typed) (s .args .k) 1 (c .before .before .before .before .before .before .match .keys2) (c .before .before .add-item2 .ensures)
 
 same-length-3 : tie.Need-same-length-3
 same-length-3 c = search needs
 
 returns-3 : tie.Need-returns-3
 unfolding candidates
-returns-3 c = item-at (c .before .before .before .before .before .before .before .before .before .args .text .now) (c .before .before .before .before .before .before .before .before .before .args .start) (c .before .before .before .before .before .before .before .before .before .args .typed) (c .before .before .before .before .before .before .before .before .before .args .k) 2 (c .before .before .before .before .before .before .match .keys3) (c .before .before .add-item3 .ensures)
+returns-3 c =
+    let s = c .before .before .before .before .before .before .before .before .before in
+    item-at (s .args .text .now) (s .args .start) (s .args .typed) (s .args .k) 2 (c .before .before .before .before .before .before .match .keys3) (c .before .before .add-item3 .ensures)
 
 same-length-4 : tie.Need-same-length-4
 same-length-4 c = search needs
 
 returns-4 : tie.Need-returns-4
 unfolding candidates
-returns-4 c = item-at (c .before .before .before .before .before .before .before .before .before .args .text .now) (c .before .before .before .before .before .before .before .before .before .args .start) (c .before .before .before .before .before .before .before .before .before .args .typed) (c .before .before .before .before .before .before .before .before .before .args .k) 3 (c .before .before .before .before .before .before .match .keys4) (c .before .before .add-item4 .ensures)
+returns-4 c =
+    let s = c .before .before .before .before .before .before .before .before .before in
+    item-at (s .args .text .now) (s .args .start) (s .args .typed) (s .args .k) 3 (c .before .before .before .before .before .before .match .keys4) (c .before .before .add-item4 .ensures)
 
 same-length-5 : tie.Need-same-length-5
 same-length-5 c = search needs
 
 returns-5 : tie.Need-returns-5
 unfolding candidates
-returns-5 c = item-at (c .before .before .before .before .before .before .before .before .before .args .text .now) (c .before .before .before .before .before .before .before .before .before .args .start) (c .before .before .before .before .before .before .before .before .before .args .typed) (c .before .before .before .before .before .before .before .before .before .args .k) 4 (c .before .before .before .before .before .before .match .keys5) (c .before .before .add-item5 .ensures)
+returns-5 c =
+    let s = c .before .before .before .before .before .before .before .before .before in
+    item-at (s .args .text .now) (s .args .start) (s .args .typed) (s .args .k) 4 (c .before .before .before .before .before .before .match .keys5) (c .before .before .add-item5 .ensures)
 
 same-length-6 : tie.Need-same-length-6
 same-length-6 c = search needs
 
 returns-6 : tie.Need-returns-6
 unfolding candidates
-returns-6 c = item-at (c .before .before .before .before .before .before .before .before .before .args .text .now) (c .before .before .before .before .before .before .before .before .before .args .start) (c .before .before .before .before .before .before .before .before .before .args .typed) (c .before .before .before .before .before .before .before .before .before .args .k) 5 (c .before .before .before .before .before .before .match .keys6) (c .before .before .add-item6 .ensures)
+returns-6 c =
+    let s = c .before .before .before .before .before .before .before .before .before in
+    item-at (s .args .text .now) (s .args .start) (s .args .typed) (s .args .k) 5 (c .before .before .before .before .before .before .match .keys6) (c .before .before .add-item6 .ensures)
 
 same-length-7 : tie.Need-same-length-7
 same-length-7 c = search needs
 
 returns-7 : tie.Need-returns-7
 unfolding candidates
-returns-7 c = item-at (c .before .before .before .before .before .before .before .before .before .args .text .now) (c .before .before .before .before .before .before .before .before .before .args .start) (c .before .before .before .before .before .before .before .before .before .args .typed) (c .before .before .before .before .before .before .before .before .before .args .k) 6 (c .before .before .before .before .before .before .match .keys7) (c .before .before .add-item7 .ensures)
+returns-7 c =
+    let s = c .before .before .before .before .before .before .before .before .before in
+    item-at (s .args .text .now) (s .args .start) (s .args .typed) (s .args .k) 6 (c .before .before .before .before .before .before .match .keys7) (c .before .before .add-item7 .ensures)
 
 same-length-8 : tie.Need-same-length-8
 same-length-8 c = search needs
 
 returns-8 : tie.Need-returns-8
 unfolding candidates
-returns-8 c = item-at (c .before .before .before .before .before .before .before .before .before .args .text .now) (c .before .before .before .before .before .before .before .before .before .args .start) (c .before .before .before .before .before .before .before .before .before .args .typed) (c .before .before .before .before .before .before .before .before .before .args .k) 7 (c .before .before .before .before .before .before .match .keys8) (c .before .before .add-item8 .ensures)
+returns-8 c =
+    let s = c .before .before .before .before .before .before .before .before .before in
+    item-at (s .args .text .now) (s .args .start) (s .args .typed) (s .args .k) 7 (c .before .before .before .before .before .before .match .keys8) (c .before .before .add-item8 .ensures)
 
 same-length-9 : tie.Need-same-length-9
 same-length-9 c = search needs
 
 returns-9 : tie.Need-returns-9
 unfolding candidates
-returns-9 c = item-at (c .before .before .before .before .before .before .before .before .before .args .text .now) (c .before .before .before .before .before .before .before .before .before .args .start) (c .before .before .before .before .before .before .before .before .before .args .typed) (c .before .before .before .before .before .before .before .before .before .args .k) 8 (c .before .before .before .before .before .before .match .keys9) (c .before .before .add-item9 .ensures)
+returns-9 c =
+    let s = c .before .before .before .before .before .before .before .before .before in
+    item-at (s .args .text .now) (s .args .start) (s .args .typed) (s .args .k) 8 (c .before .before .before .before .before .before .match .keys9) (c .before .before .add-item9 .ensures)
 
 same-length-10 : tie.Need-same-length-10
 same-length-10 c = search needs
 
 returns-10 : tie.Need-returns-10
 unfolding candidates
-returns-10 c = item-at (c .before .before .before .before .before .before .before .before .before .args .text .now) (c .before .before .before .before .before .before .before .before .before .args .start) (c .before .before .before .before .before .before .before .before .before .args .typed) (c .before .before .before .before .before .before .before .before .before .args .k) 9 (c .before .before .before .before .before .before .match .keys10) (c .before .before .add-item10 .ensures)
+returns-10 c =
+    let s = c .before .before .before .before .before .before .before .before .before in
+    item-at (s .args .text .now) (s .args .start) (s .args .typed) (s .args .k) 9 (c .before .before .before .before .before .before .match .keys10) (c .before .before .add-item10 .ensures)
 
 same-length-11 : tie.Need-same-length-11
 same-length-11 c = search needs
 
 returns-11 : tie.Need-returns-11
 unfolding candidates
-returns-11 c = item-at (c .before .before .before .before .before .before .before .before .before .args .text .now) (c .before .before .before .before .before .before .before .before .before .args .start) (c .before .before .before .before .before .before .before .before .before .args .typed) (c .before .before .before .before .before .before .before .before .before .args .k) 10 (c .before .before .before .before .before .before .match .keys11) (c .before .before .add-item11 .ensures)
+returns-11 c =
+    let s = c .before .before .before .before .before .before .before .before .before in
+    item-at (s .args .text .now) (s .args .start) (s .args .typed) (s .args .k) 10 (c .before .before .before .before .before .before .match .keys11) (c .before .before .add-item11 .ensures)
 
 same-length-12 : tie.Need-same-length-12
 same-length-12 c = search needs
 
 returns-12 : tie.Need-returns-12
 unfolding candidates
-returns-12 c = item-at (c .before .before .before .before .before .before .before .before .before .args .text .now) (c .before .before .before .before .before .before .before .before .before .args .start) (c .before .before .before .before .before .before .before .before .before .args .typed) (c .before .before .before .before .before .before .before .before .before .args .k) 11 (c .before .before .before .before .before .before .match .keys12) (c .before .before .add-item12 .ensures)
+returns-12 c =
+    let s = c .before .before .before .before .before .before .before .before .before in
+    item-at (s .args .text .now) (s .args .start) (s .args .typed) (s .args .k) 11 (c .before .before .before .before .before .before .match .keys12) (c .before .before .add-item12 .ensures)
 
 same-length-13 : tie.Need-same-length-13
 same-length-13 c = search needs
 
 returns-13 : tie.Need-returns-13
 unfolding candidates
-returns-13 c = item-at (c .before .before .before .before .before .before .before .before .before .args .text .now) (c .before .before .before .before .before .before .before .before .before .args .start) (c .before .before .before .before .before .before .before .before .before .args .typed) (c .before .before .before .before .before .before .before .before .before .args .k) 12 (c .before .before .before .before .before .before .match .keys13) (c .before .before .add-item13 .ensures)
+returns-13 c =
+    let s = c .before .before .before .before .before .before .before .before .before in
+    item-at (s .args .text .now) (s .args .start) (s .args .typed) (s .args .k) 12 (c .before .before .before .before .before .before .match .keys13) (c .before .before .add-item13 .ensures)
 
 same-length-14 : tie.Need-same-length-14
 same-length-14 c = search needs
 
 returns-14 : tie.Need-returns-14
 unfolding candidates
-returns-14 c = item-at (c .before .before .before .before .before .before .before .before .before .args .text .now) (c .before .before .before .before .before .before .before .before .before .args .start) (c .before .before .before .before .before .before .before .before .before .args .typed) (c .before .before .before .before .before .before .before .before .before .args .k) 13 (c .before .before .before .before .before .before .match .keys14) (c .before .before .add-item14 .ensures)
+returns-14 c =
+    let s = c .before .before .before .before .before .before .before .before .before in
+    item-at (s .args .text .now) (s .args .start) (s .args .typed) (s .args .k) 13 (c .before .before .before .before .before .before .match .keys14) (c .before .before .add-item14 .ensures)
 
 same-length-15 : tie.Need-same-length-15
 same-length-15 c = search needs
 
 returns-15 : tie.Need-returns-15
 unfolding candidates
-returns-15 c = item-at (c .before .before .before .before .before .before .before .before .before .args .text .now) (c .before .before .before .before .before .before .before .before .before .args .start) (c .before .before .before .before .before .before .before .before .before .args .typed) (c .before .before .before .before .before .before .before .before .before .args .k) 14 (c .before .before .before .before .before .before .match .keys15) (c .before .before .add-item15 .ensures)
+returns-15 c =
+    let s = c .before .before .before .before .before .before .before .before .before in
+    item-at (s .args .text .now) (s .args .start) (s .args .typed) (s .args .k) 14 (c .before .before .before .before .before .before .match .keys15) (c .before .before .add-item15 .ensures)
 
 same-length-16 : tie.Need-same-length-16
 same-length-16 c = search needs
 
 returns-16 : tie.Need-returns-16
 unfolding candidates
-returns-16 c = item-at (c .before .before .before .before .before .before .before .before .before .args .text .now) (c .before .before .before .before .before .before .before .before .before .args .start) (c .before .before .before .before .before .before .before .before .before .args .typed) (c .before .before .before .before .before .before .before .before .before .args .k) 15 (c .before .before .before .before .before .before .match .keys16) (c .before .before .add-item16 .ensures)
+returns-16 c =
+    let s = c .before .before .before .before .before .before .before .before .before in
+    item-at (s .args .text .now) (s .args .start) (s .args .typed) (s .args .k) 15 (c .before .before .before .before .before .before .match .keys16) (c .before .before .add-item16 .ensures)
 
 same-length-17 : tie.Need-same-length-17
 same-length-17 c = search needs
 
 returns-17 : tie.Need-returns-17
 unfolding candidates
-returns-17 c = item-at (c .before .before .before .before .before .before .before .before .before .args .text .now) (c .before .before .before .before .before .before .before .before .before .args .start) (c .before .before .before .before .before .before .before .before .before .args .typed) (c .before .before .before .before .before .before .before .before .before .args .k) 16 (c .before .before .before .before .before .before .match .keys17) (c .before .before .add-item17 .ensures)
+returns-17 c =
+    let s = c .before .before .before .before .before .before .before .before .before in
+    item-at (s .args .text .now) (s .args .start) (s .args .typed) (s .args .k) 16 (c .before .before .before .before .before .before .match .keys17) (c .before .before .add-item17 .ensures)
 
 same-length-18 : tie.Need-same-length-18
 same-length-18 c = search needs
 
 returns-18 : tie.Need-returns-18
 unfolding candidates
-returns-18 c = let a = above (c .before .before .before .before .before .before .before .before .before .args .k) 16 (above (c .before .before .before .before .before .before .before .before .before .args .k) 15 (above (c .before .before .before .before .before .before .before .before .before .args .k) 14 (above (c .before .before .before .before .before .before .before .before .before .args .k) 13 (above (c .before .before .before .before .before .before .before .before .before .args .k) 12 (above (c .before .before .before .before .before .before .before .before .before .args .k) 11 (above (c .before .before .before .before .before .before .before .before .before .args .k) 10 (above (c .before .before .before .before .before .before .before .before .before .args .k) 9 (above (c .before .before .before .before .before .before .before .before .before .args .k) 8 (above (c .before .before .before .before .before .before .before .before .before .args .k) 7 (above (c .before .before .before .before .before .before .before .before .before .args .k) 6 (above (c .before .before .before .before .before .before .before .before .before .args .k) 5 (above (c .before .before .before .before .before .before .before .before .before .args .k) 4 (above (c .before .before .before .before .before .before .before .before .before .args .k) 3 (above (c .before .before .before .before .before .before .before .before .before .args .k) 2 (above (c .before .before .before .before .before .before .before .before .before .args .k) 1 (above (c .before .before .before .before .before .before .before .before .before .args .k) 0 (omega arith) (c .before .before .before .before .before .before .match .rest .0 .0 .0 .0 .0 .0 .0 .0 .0 .0 .0 .0 .0 .0 .0 .0 .1)) (c .before .before .before .before .before .before .match .rest .0 .0 .0 .0 .0 .0 .0 .0 .0 .0 .0 .0 .0 .0 .0 .1)) (c .before .before .before .before .before .before .match .rest .0 .0 .0 .0 .0 .0 .0 .0 .0 .0 .0 .0 .0 .0 .1)) (c .before .before .before .before .before .before .match .rest .0 .0 .0 .0 .0 .0 .0 .0 .0 .0 .0 .0 .0 .1)) (c .before .before .before .before .before .before .match .rest .0 .0 .0 .0 .0 .0 .0 .0 .0 .0 .0 .0 .1)) (c .before .before .before .before .before .before .match .rest .0 .0 .0 .0 .0 .0 .0 .0 .0 .0 .0 .1)) (c .before .before .before .before .before .before .match .rest .0 .0 .0 .0 .0 .0 .0 .0 .0 .0 .1)) (c .before .before .before .before .before .before .match .rest .0 .0 .0 .0 .0 .0 .0 .0 .0 .1)) (c .before .before .before .before .before .before .match .rest .0 .0 .0 .0 .0 .0 .0 .0 .1)) (c .before .before .before .before .before .before .match .rest .0 .0 .0 .0 .0 .0 .0 .1)) (c .before .before .before .before .before .before .match .rest .0 .0 .0 .0 .0 .0 .1)) (c .before .before .before .before .before .before .match .rest .0 .0 .0 .0 .0 .1)) (c .before .before .before .before .before .before .match .rest .0 .0 .0 .0 .1)) (c .before .before .before .before .before .before .match .rest .0 .0 .0 .1)) (c .before .before .before .before .before .before .match .rest .0 .0 .1)) (c .before .before .before .before .before .before .match .rest .0 .1)) (c .before .before .before .before .before .before .match .rest .1) in let b = c .before .before .before .before .before .before .before .before .before .pre .1 in let n = candidate-count in item-at (c .before .before .before .before .before .before .before .before .before .args .text .now) (c .before .before .before .before .before .before .before .before .before .args .start) (c .before .before .before .before .before .before .before .before .before .args .typed) (c .before .before .before .before .before .before .before .before .before .args .k) 17 (omega arith) (c .before .before .add-item18 .ensures)
+returns-18 c =
+    let s = c .before .before .before .before .before .before .before .before .before in
+    let keys = c .before .before .before .before .before .before .match in
+    let a = above (s .args .k) 16 (above (s .args .k) 15 (above (s .args .k) 14 (above (s .args .k) 13 (above (s .args .k) 12 (above (s .args .k) 11 (above (s .args .k) 10 (above (s .args .k) 9 (above (s .args .k) 8 (above (s .args .k) 7 (above (s .args .k) 6 (above (s .args .k) 5 (above (s .args .k) 4 (above (s .args .k) 3 (above (s .args .k) 2 (above (s .args .k) 1 (above (s .args .k) 0 (omega arith) (keys .rest .0 .0 .0 .0 .0 .0 .0 .0 .0 .0 .0 .0 .0 .0 .0 .0 .1)) (keys .rest .0 .0 .0 .0 .0 .0 .0 .0 .0 .0 .0 .0 .0 .0 .0 .1)) (keys .rest .0 .0 .0 .0 .0 .0 .0 .0 .0 .0 .0 .0 .0 .0 .1)) (keys .rest .0 .0 .0 .0 .0 .0 .0 .0 .0 .0 .0 .0 .0 .1)) (keys .rest .0 .0 .0 .0 .0 .0 .0 .0 .0 .0 .0 .0 .1)) (keys .rest .0 .0 .0 .0 .0 .0 .0 .0 .0 .0 .0 .1)) (keys .rest .0 .0 .0 .0 .0 .0 .0 .0 .0 .0 .1)) (keys .rest .0 .0 .0 .0 .0 .0 .0 .0 .0 .1)) (keys .rest .0 .0 .0 .0 .0 .0 .0 .0 .1)) (keys .rest .0 .0 .0 .0 .0 .0 .0 .1)) (keys .rest .0 .0 .0 .0 .0 .0 .1)) (keys .rest .0 .0 .0 .0 .0 .1)) (keys .rest .0 .0 .0 .0 .1)) (keys .rest .0 .0 .0 .1)) (keys .rest .0 .0 .1)) (keys .rest .0 .1)) (keys .rest .1) in let b = s .pre .1 in let n = candidate-count in item-at (s .args .text .now) (s .args .start) (s .args .typed) (s .args .k) 17 (omega arith) (c .before .before .add-item18 .ensures)
 
 pub add-candidate-spec : {M : Type 1} → statement M
 add-candidate-spec =

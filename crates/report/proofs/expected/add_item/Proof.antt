@@ -23,10 +23,14 @@ same-length : tie.Need-same-length
 same-length c = search needs
 
 returns : tie.Need-returns
-returns c = item-stands _ (c .before .before .before .before .before .before .before .before .before .before .before .before .before .before .before .args .shown .now) (sym (c .before .before .before .before .before .before .before .before .before .before .is-begun .ensures) ∙ c .before .before .before .before .before .before .before .before .before .if1 .taken) (filled-then (omega arith) (filled-as 1 (omega arith) (c .before .before .before .before .before .before .add-bytes .ensures)) (filled-as 8 (c .before .before .before .before .before .before .before .before .before .before .before .before .before .before .before .pre .2) (c .before .before .add-bytes2 .ensures)))
+returns c =
+    let s = c .before .before .before .before .before .before .before .before .before .before .before .before .before .before .before in
+    item-stands _ (s .args .shown .now) (sym (c .before .before .before .before .before .before .before .before .before .before .is-begun .ensures) ∙ c .before .before .before .before .before .before .before .before .before .if1 .taken) (filled-then (omega arith) (filled-as 1 (omega arith) (c .before .before .before .before .before .before .add-bytes .ensures)) (filled-as 8 (s .pre .2) (c .before .before .add-bytes2 .ensures)))
 
 returns-2 : tie.Need-returns-2
-returns-2 c = item-not _ (c .before .before .before .before .before .before .args .shown .now) (c .before .before .before .before .before .before .args .at) (c .before .before .before .before .before .before .args .out .now) (sym (c .before .is-begun .ensures) ∙ c .if1 .left)
+returns-2 c =
+    let s = c .before .before .before .before .before .before in
+    item-not _ (s .args .shown .now) (s .args .at) (s .args .out .now) (sym (c .before .is-begun .ensures) ∙ c .if1 .left)
 
 pub add-item-spec : {M : Type 1} → statement M
 add-item-spec =

@@ -8,7 +8,9 @@ use Rattle.report.proofs.expected.is_begun.Statement.{statement}
 use Rattle.report.proofs.expected.is_begun.Tie as tie
 
 returns : tie.Need-returns
-returns c = begun-all (c .before .before .before .args .text .now) (c .before .before .before .args .start) (c .before .before .before .args .typed) (c .before .before .before .args .bytes .now) (c .if1 .taken)
+returns c =
+    let s = c .before .before .before in
+    begun-all (s .args .text .now) (s .args .start) (s .args .typed) (s .args .bytes .now) (c .if1 .taken)
 
 least-requires : tie.Need-least-requires
 least-requires c κs = search needs

@@ -24,7 +24,10 @@ sub-i-2 : tie.Need-sub-i-2 Inv-loop μ-loop
 sub-i-2 c = search needs
 
 returns : tie.Need-returns Inv-loop μ-loop
-returns c = (c .before .before .loop .inv .0, letters-out (c .before .before .before .before .args .text .now) (c .before .before .before .before .args .place) (c .before .before .loop .n) (c .before .loop-test .taken) (c .before .before .loop .inv .1) (c .if1 .taken))
+returns c =
+    let s = c .before .before .before .before in
+    let l = c .before .before .loop in
+    (l .inv .0, letters-out (s .args .text .now) (s .args .place) (l .n) (c .before .loop-test .taken) (l .inv .1) (c .if1 .taken))
 
 shared-slice-read-is-letter : tie.Need-shared-slice-read-is-letter Inv-loop μ-loop
 shared-slice-read-is-letter c = search needs
@@ -33,7 +36,10 @@ is-letter-requires : tie.Need-is-letter-requires Inv-loop μ-loop
 is-letter-requires c κs = search needs
 
 returns-2 : tie.Need-returns-2 Inv-loop μ-loop
-returns-2 c = (c .before .before .before .before .before .loop .inv .0, letters-stop (c .before .before .before .before .before .before .before .args .text .now) (c .before .before .before .before .before .before .before .args .place) (c .before .before .before .before .before .loop .n) (c .before .before .before .before .loop-test .taken) (c .before .before .before .before .before .loop .inv .1) (sym (c .before .is-letter .ensures) ∙ not-true (c .before .is-letter .result) (c .if2 .taken)))
+returns-2 c =
+    let s = c .before .before .before .before .before .before .before in
+    let l = c .before .before .before .before .before .loop in
+    (l .inv .0, letters-stop (s .args .text .now) (s .args .place) (l .n) (c .before .before .before .before .loop-test .taken) (l .inv .1) (sym (c .before .is-letter .ensures) ∙ not-true (c .before .is-letter .result) (c .if2 .taken)))
 
 add-n : tie.Need-add-n Inv-loop μ-loop
 add-n c = search needs
@@ -42,10 +48,15 @@ loop-less : tie.Need-loop-less Inv-loop μ-loop
 loop-less c = search needs
 
 loop-again : tie.Need-loop-again Inv-loop μ-loop
-loop-again c = (search needs, letters-next (c .before .before .before .before .before .before .before .args .text .now) (c .before .before .before .before .before .before .before .args .place) (c .before .before .before .before .before .loop .n) (c .before .before .before .before .loop-test .taken) (c .before .before .before .before .before .loop .inv .1) (sym (c .before .is-letter .ensures) ∙ not-false (c .before .is-letter .result) (c .if2 .left)))
+loop-again c =
+    let s = c .before .before .before .before .before .before .before in
+    let l = c .before .before .before .before .before .loop in
+    (search needs, letters-next (s .args .text .now) (s .args .place) (l .n) (c .before .before .before .before .loop-test .taken) (l .inv .1) (sym (c .before .is-letter .ensures) ∙ not-false (c .before .is-letter .result) (c .if2 .left)))
 
 returns-3 : tie.Need-returns-3 Inv-loop μ-loop
-returns-3 c = (c .before .loop .inv .0, letters-end (c .before .before .before .args .text .now) (c .before .before .before .args .place) (c .before .loop .n) (c .before .loop .inv .0) (c .loop-test .left) (c .before .loop .inv .1))
+returns-3 c =
+    let s = c .before .before .before in
+    (c .before .loop .inv .0, letters-end (s .args .text .now) (s .args .place) (c .before .loop .n) (c .before .loop .inv .0) (c .loop-test .left) (c .before .loop .inv .1))
 
 pub letters-before-spec : {M : Type 1} → statement M
 letters-before-spec =

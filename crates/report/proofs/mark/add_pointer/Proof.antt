@@ -20,19 +20,35 @@ slice-aggregate-add-bytes : tie.Need-slice-aggregate-add-bytes
 slice-aggregate-add-bytes c = sym (indent-length (c .before .before .before .args .place) (c .before .shown-from .result) (c .before .shown-from .ensures))
 
 add-bytes-requires : tie.Need-add-bytes-requires
-add-bytes-requires c κs = let l = indent-length (c .before .before .before .before .args .place) (c .before .before .shown-from .result) (c .before .before .shown-from .ensures) in let e = c .before .before .shown-from .ensures in let room = c .before .before .before .before .pre in omega arith
+add-bytes-requires c κs =
+    let s = c .before .before .before .before in
+    let shown-from = c .before .before .shown-from in
+    let l = indent-length (s .args .place) (shown-from .result) (shown-from .ensures) in
+    let e = shown-from .ensures in
+    let room = s .pre in
+    omega arith
 
 slice-aggregate-add-bytes-2 : tie.Need-slice-aggregate-add-bytes-2
 slice-aggregate-add-bytes-2 c = search needs
 
 add-bytes-requires-2 : tie.Need-add-bytes-requires-2
-add-bytes-requires-2 c κs = let e = c .before .before .before .before .before .before .before .shown-from .ensures in let room = c .before .before .before .before .before .before .before .before .before .pre in filled-room 2 (omega arith) (filled-as 60 (let l = indent-length (c .before .before .before .before .before .before .before .before .before .args .place) (c .before .before .before .before .before .before .before .shown-from .result) e in omega arith) (c .before .before .before .before .add-bytes .ensures))
+add-bytes-requires-2 c κs =
+    let s = c .before .before .before .before .before .before .before .before .before in
+    let shown-from = c .before .before .before .before .before .before .before .shown-from in
+    let e = shown-from .ensures in
+    let room = s .pre in
+    filled-room 2 (omega arith) (filled-as 60 (let l = indent-length (s .args .place) (shown-from .result) e in omega arith) (c .before .before .before .before .add-bytes .ensures))
 
 same-length : tie.Need-same-length
 same-length c = search needs
 
 returns : tie.Need-returns
-returns c = let e = c .before .before .before .before .before .before .before .before .before .before .shown-from .ensures in let room = c .before .before .before .before .before .before .before .before .before .before .before .before .pre in filled-is (indent-text (c .before .before .before .before .before .before .before .before .before .before .before .before .args .place) (c .before .before .before .before .before .before .before .before .before .before .shown-from .result) e) (filled-then (omega arith) (filled-as 60 (let l = indent-length (c .before .before .before .before .before .before .before .before .before .before .before .before .args .place) (c .before .before .before .before .before .before .before .before .before .before .shown-from .result) e in omega arith) (c .before .before .before .before .before .before .before .add-bytes .ensures)) (filled-as 2 (omega arith) (c .before .before .add-bytes2 .ensures)))
+returns c =
+    let s = c .before .before .before .before .before .before .before .before .before .before .before .before in
+    let shown-from = c .before .before .before .before .before .before .before .before .before .before .shown-from in
+    let e = shown-from .ensures in
+    let room = s .pre in
+    filled-is (indent-text (s .args .place) (shown-from .result) e) (filled-then (omega arith) (filled-as 60 (let l = indent-length (s .args .place) (shown-from .result) e in omega arith) (c .before .before .before .before .before .before .before .add-bytes .ensures)) (filled-as 2 (omega arith) (c .before .before .add-bytes2 .ensures)))
 
 pub add-pointer-spec : {M : Type 1} → statement M
 add-pointer-spec =

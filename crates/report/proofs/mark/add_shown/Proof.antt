@@ -17,7 +17,9 @@ abbrev μ-loop : tie.MeasureT-loop
 μ-loop text from n at out₀ i₀ out i = n - i
 
 loop-holds : tie.Need-loop-holds Inv-loop μ-loop
-loop-holds c = (c .before .before .pre .0, c .before .before .pre .1, search needs, search needs, shown-start (c .before .before .args .text .now) (c .before .before .args .from) (c .before .before .args .n) (c .before .before .pre .0) (c .before .before .args .at) (c .before .before .args .out .now) (c .before .before .pre .1))
+loop-holds c =
+    let s = c .before .before in
+    (s .pre .0, s .pre .1, search needs, search needs, shown-start (s .args .text .now) (s .args .from) (s .args .n) (s .pre .0) (s .args .at) (s .args .out .now) (s .pre .1))
 
 add-show : tie.Need-add-show Inv-loop μ-loop
 add-show c = search needs
@@ -41,7 +43,11 @@ loop-less : tie.Need-loop-less Inv-loop μ-loop
 loop-less c = search needs
 
 loop-again : tie.Need-loop-again Inv-loop μ-loop
-loop-again c = let i = c .before .before .before .loop .inv in (search needs, search needs, search needs, search needs, shown-next (c .before .before .before .before .before .before .args .text .now) (c .before .before .before .before .before .before .args .from) (c .before .before .before .before .before .before .args .n) (i .0) (c .before .before .before .before .before .before .args .at) (c .before .before .before .before .before .before .args .out .now) (i .1) (c .before .before .before .loop .i) (c .show .result) (c .before .before .before .loop .out) (c .before .before .loop-test .taken) (c .show .ensures) (i .4))
+loop-again c =
+    let s = c .before .before .before .before .before .before in
+    let l = c .before .before .before .loop in
+    let i = l .inv in
+    (search needs, search needs, search needs, search needs, shown-next (s .args .text .now) (s .args .from) (s .args .n) (i .0) (s .args .at) (s .args .out .now) (i .1) (l .i) (c .show .result) (l .out) (c .before .before .loop-test .taken) (c .show .ensures) (i .4))
 
 add-result : tie.Need-add-result Inv-loop μ-loop
 add-result c = search needs
@@ -50,7 +56,10 @@ same-length : tie.Need-same-length Inv-loop μ-loop
 same-length c = search needs
 
 returns : tie.Need-returns Inv-loop μ-loop
-returns c = let i = c .before .loop .inv in shown-end (c .before .before .before .before .args .text .now) (c .before .before .before .before .args .from) (c .before .before .before .before .args .n) (i .0) (c .before .before .before .before .args .at) (c .before .before .before .before .args .out .now) (i .1) (c .before .loop .i) (c .before .loop .out) (c .loop-test .left) (i .4)
+returns c =
+    let s = c .before .before .before .before in
+    let i = c .before .loop .inv in
+    shown-end (s .args .text .now) (s .args .from) (s .args .n) (i .0) (s .args .at) (s .args .out .now) (i .1) (c .before .loop .i) (c .before .loop .out) (c .loop-test .left) (i .4)
 
 pub add-shown-spec : {M : Type 1} → statement M
 add-shown-spec =

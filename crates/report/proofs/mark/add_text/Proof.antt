@@ -19,13 +19,24 @@ slice-aggregate-add-bytes : tie.Need-slice-aggregate-add-bytes
 slice-aggregate-add-bytes c = search needs
 
 add-bytes-requires : tie.Need-add-bytes-requires
-add-bytes-requires c κs = let room = c .before .before .before .before .before .before .before .before .before .before .pre in let k = c .before .before .before .before .before .before .shown-count .ensures in filled-room 1 (omega arith) (filled-as 72 (let s = shown-few (c .before .before .before .before .before .before .before .before .before .before .args .text .now) (c .before .before .before .before .before .before .before .shown-from .result) (c .before .before .before .before .before .before .shown-count .result) in let l = k .0 in omega arith) (c .before .before .before .before .add-shown .ensures))
+add-bytes-requires c κs =
+    let s = c .before .before .before .before .before .before .before .before .before .before in
+    let shown-count = c .before .before .before .before .before .before .shown-count in
+    let room = s .pre in
+    let k = shown-count .ensures in
+    filled-room 1 (omega arith) (filled-as 72 (let s = shown-few (s .args .text .now) (c .before .before .before .before .before .before .before .shown-from .result) (shown-count .result) in let l = k .0 in omega arith) (c .before .before .before .before .add-shown .ensures))
 
 same-length : tie.Need-same-length
 same-length c = search needs
 
 returns : tie.Need-returns
-returns c = let room = c .before .before .before .before .before .before .before .before .before .before .before .before .before .pre in let k = c .before .before .before .before .before .before .before .before .before .shown-count .ensures in filled-is (shown-all (c .before .before .before .before .before .before .before .before .before .before .before .before .before .args .text .now) (c .before .before .before .before .before .before .before .before .before .before .before .before .before .args .place) (c .before .before .before .before .before .before .before .before .before .before .shown-from .result) (c .before .before .before .before .before .before .before .before .before .shown-count .result) (c .before .before .before .before .before .before .before .before .before .before .shown-from .ensures) (k .0) (k .2)) (filled-then (omega arith) (filled-as 72 (let s = shown-few (c .before .before .before .before .before .before .before .before .before .before .before .before .before .args .text .now) (c .before .before .before .before .before .before .before .before .before .before .shown-from .result) (c .before .before .before .before .before .before .before .before .before .shown-count .result) in let l = k .0 in omega arith) (c .before .before .before .before .before .before .before .add-shown .ensures)) (filled-as 1 (omega arith) (c .before .before .add-bytes .ensures)))
+returns c =
+    let s = c .before .before .before .before .before .before .before .before .before .before .before .before .before in
+    let shown-from = c .before .before .before .before .before .before .before .before .before .before .shown-from in
+    let shown-count = c .before .before .before .before .before .before .before .before .before .shown-count in
+    let room = s .pre in
+    let k = shown-count .ensures in
+    filled-is (shown-all (s .args .text .now) (s .args .place) (shown-from .result) (shown-count .result) (shown-from .ensures) (k .0) (k .2)) (filled-then (omega arith) (filled-as 72 (let s = shown-few (s .args .text .now) (shown-from .result) (shown-count .result) in let l = k .0 in omega arith) (c .before .before .before .before .before .before .before .add-shown .ensures)) (filled-as 1 (omega arith) (c .before .before .add-bytes .ensures)))
 
 pub add-text-spec : {M : Type 1} → statement M
 add-text-spec =

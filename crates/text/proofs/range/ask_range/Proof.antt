@@ -34,7 +34,9 @@ loop-less : tie.Need-loop-less Inv-loop μ-loop
 loop-less c = search needs
 
 loop-again : tie.Need-loop-again Inv-loop μ-loop
-loop-again c = ranging-next _ _ _ (c .before .before .before .before .loop .inv) (c .before .before .before .loop-test .taken) (sym (c .before .before .in-range .ensures) ∙ not-false (c .before .before .in-range .result) (c .before .if1 .left))
+loop-again c =
+    let in-range = c .before .before .in-range in
+    ranging-next _ _ _ (c .before .before .before .before .loop .inv) (c .before .before .before .loop-test .taken) (sym (in-range .ensures) ∙ not-false (in-range .result) (c .before .if1 .left))
 
 returns-2 : tie.Need-returns-2 Inv-loop μ-loop
 returns-2 c = ranging-end _ _ _ (c .before .loop .inv) (c .loop-test .left)

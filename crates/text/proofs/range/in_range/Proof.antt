@@ -16,13 +16,17 @@ is-digit-requires : tie.Need-is-digit-requires
 is-digit-requires c κs = search needs
 
 returns : tie.Need-returns
-returns c = in-range-other (c .before .before .before .before .args .text .now) (c .before .before .before .before .args .at) (sym (c .before .is-digit .ensures) ∙ not-true (c .before .is-digit .result) (c .if1 .taken))
+returns c =
+    let s = c .before .before .before .before in
+    in-range-other (s .args .text .now) (s .args .at) (sym (c .before .is-digit .ensures) ∙ not-true (c .before .is-digit .result) (c .if1 .taken))
 
 is-digit-requires-2 : tie.Need-is-digit-requires-2
 is-digit-requires-2 c κs = search needs
 
 returns-2 : tie.Need-returns-2
-returns-2 c = in-range-inside (c .before .before .before .before .before .before .args .text .now) (c .before .before .before .before .before .before .args .at) (sym (c .before .is-digit2 .ensures ∙ ap isDigit (c .before .before .before .before .before .before .pre .1)) ∙ c .if2 .taken)
+returns-2 c =
+    let s = c .before .before .before .before .before .before in
+    in-range-inside (s .args .text .now) (s .args .at) (sym (c .before .is-digit2 .ensures ∙ ap isDigit (s .pre .1)) ∙ c .if2 .taken)
 
 digits-at-requires : tie.Need-digits-at-requires
 digits-at-requires c κs = search needs
@@ -31,7 +35,10 @@ most-after-requires : tie.Need-most-after-requires
 most-after-requires c κs = search needs
 
 returns-3 : tie.Need-returns-3
-returns-3 c = ap₂ leb (c .before .before .digits-at .ensures .0) (c .before .most-after .ensures ∙ ap mostAfter (c .before .before .before .before .before .before .before .before .before .pre .1)) ∙ in-range-start (c .before .before .before .before .before .before .before .before .before .args .text .now) (c .before .before .before .before .before .before .before .before .before .args .at) (sym (c .before .before .before .before .before .before .is-digit .ensures) ∙ not-false (c .before .before .before .before .before .before .is-digit .result) (c .before .before .before .before .before .if1 .left)) (sym (c .before .before .before .before .is-digit2 .ensures ∙ ap isDigit (c .before .before .before .before .before .before .before .before .before .pre .1)) ∙ c .before .before .before .if2 .left)
+returns-3 c =
+    let s = c .before .before .before .before .before .before .before .before .before in
+    let is-digit = c .before .before .before .before .before .before .is-digit in
+    ap₂ leb (c .before .before .digits-at .ensures .0) (c .before .most-after .ensures ∙ ap mostAfter (s .pre .1)) ∙ in-range-start (s .args .text .now) (s .args .at) (sym (is-digit .ensures) ∙ not-false (is-digit .result) (c .before .before .before .before .before .if1 .left)) (sym (c .before .before .before .before .is-digit2 .ensures ∙ ap isDigit (s .pre .1)) ∙ c .before .before .before .if2 .left)
 
 pub in-range-spec : {M : Type 1} → statement M
 in-range-spec =

@@ -76,34 +76,54 @@ wanting-requires-10 : tie.Need-wanting-requires-10
 wanting-requires-10 c κs = search needs
 
 returns : tie.Need-returns
-returns c = c .wanting .ensures ∙ ap (scanAfter (c .before .before .before .args .s .want) (c .before .before .before .args .s .depth)) (sym (c .before .enum-told .given .1))
+returns c =
+    let s = c .before .before .before in
+    c .wanting .ensures ∙ ap (scanAfter (s .args .s .want) (s .args .s .depth)) (sym (c .before .enum-told .given .1))
 
 returns-2 : tie.Need-returns-2
-returns-2 c = c .wanting2 .ensures ∙ ap (scanAfter (c .before .before .before .args .s .want) (c .before .before .before .args .s .depth)) (sym (c .before .enum-told2 .given .1))
+returns-2 c =
+    let s = c .before .before .before in
+    c .wanting2 .ensures ∙ ap (scanAfter (s .args .s .want) (s .args .s .depth)) (sym (c .before .enum-told2 .given .1))
 
 returns-3 : tie.Need-returns-3
-returns-3 c = c .wanting3 .ensures ∙ ap (scanAfter (c .before .before .before .args .s .want) (c .before .before .before .args .s .depth)) (sym (c .before .enum-told3 .given .1))
+returns-3 c =
+    let s = c .before .before .before in
+    c .wanting3 .ensures ∙ ap (scanAfter (s .args .s .want) (s .args .s .depth)) (sym (c .before .enum-told3 .given .1))
 
 returns-4 : tie.Need-returns-4
-returns-4 c = c .wanting4 .ensures ∙ ap (scanAfter (c .before .before .before .args .s .want) (c .before .before .before .args .s .depth)) (sym (c .before .enum-told4 .given .1))
+returns-4 c =
+    let s = c .before .before .before in
+    c .wanting4 .ensures ∙ ap (scanAfter (s .args .s .want) (s .args .s .depth)) (sym (c .before .enum-told4 .given .1))
 
 returns-5 : tie.Need-returns-5
-returns-5 c = c .wanting5 .ensures ∙ ap (scanAfter (c .before .before .before .args .s .want) (c .before .before .before .args .s .depth)) (sym (c .before .enum-told5 .given .1))
+returns-5 c =
+    let s = c .before .before .before in
+    c .wanting5 .ensures ∙ ap (scanAfter (s .args .s .want) (s .args .s .depth)) (sym (c .before .enum-told5 .given .1))
 
 returns-6 : tie.Need-returns-6
-returns-6 c = c .wanting6 .ensures ∙ ap (scanAfter (c .before .before .before .args .s .want) (c .before .before .before .args .s .depth)) (sym (c .before .enum-told6 .given .1))
+returns-6 c =
+    let s = c .before .before .before in
+    c .wanting6 .ensures ∙ ap (scanAfter (s .args .s .want) (s .args .s .depth)) (sym (c .before .enum-told6 .given .1))
 
 returns-7 : tie.Need-returns-7
-returns-7 c = c .wanting7 .ensures ∙ ap (λ n. between false (at operand n)) (add-one (c .before .before .before .args .s .depth)) ∙ ap (scanAfter (c .before .before .before .args .s .want) (c .before .before .before .args .s .depth)) (sym (c .before .enum-told7 .given .1))
+returns-7 c =
+    let s = c .before .before .before in
+    c .wanting7 .ensures ∙ ap (λ n. between false (at operand n)) (add-one (s .args .s .depth)) ∙ ap (scanAfter (s .args .s .want) (s .args .s .depth)) (sym (c .before .enum-told7 .given .1))
 
 returns-8 : tie.Need-returns-8
-returns-8 c = c .wanting8 .ensures ∙ ap (λ n. between false (at operator n)) (c .before .less-one .ensures) ∙ ap (scanAfter (c .before .before .before .before .args .s .want) (c .before .before .before .before .args .s .depth)) (sym (c .before .before .enum-told8 .given .1))
+returns-8 c =
+    let s = c .before .before .before .before in
+    c .wanting8 .ensures ∙ ap (λ n. between false (at operator n)) (c .before .less-one .ensures) ∙ ap (scanAfter (s .args .s .want) (s .args .s .depth)) (sym (c .before .before .enum-told8 .given .1))
 
 returns-9 : tie.Need-returns-9
-returns-9 c = c .wanting9 .ensures ∙ ap (scanAfter (c .before .before .before .args .s .want) (c .before .before .before .args .s .depth)) (sym (c .before .enum-told9 .given .1))
+returns-9 c =
+    let s = c .before .before .before in
+    c .wanting9 .ensures ∙ ap (scanAfter (s .args .s .want) (s .args .s .depth)) (sym (c .before .enum-told9 .given .1))
 
 returns-10 : tie.Need-returns-10
-returns-10 c = c .wanting10 .ensures ∙ ap (scanAfter (c .before .before .before .args .s .want) (c .before .before .before .args .s .depth)) (sym (c .before .enum-told10 .given .1))
+returns-10 c =
+    let s = c .before .before .before in
+    c .wanting10 .ensures ∙ ap (scanAfter (s .args .s .want) (s .args .s .depth)) (sym (c .before .enum-told10 .given .1))
 
 pub after-token-spec : {M : Type 1} → statement M
 after-token-spec =

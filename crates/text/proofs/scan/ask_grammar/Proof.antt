@@ -32,16 +32,24 @@ after-token-requires : tie.Need-after-token-requires Inv-loop μ-loop
 after-token-requires c κs = omega (arith, c .before .before .before .before .before .loop .inv .shallow, c .before .before .before .before .loop-test .taken)
 
 loop-less : tie.Need-loop-less Inv-loop μ-loop
-loop-less c = let o : Over (c .before .before .before .before .before .before .before .before .before .args .text .now) (c .before .before .before .before .before .before .loop .at) (scanOf (c .before .before .before .before .before .before .loop .s)) _ _ _ = subst (Reads (c .before .before .before .before .before .before .before .before .before .args .text .now) (c .before .before .before .before .before .before .loop .at) (c .before .before .before .before .before .before .loop .s .want) (c .before .before .before .before .before .before .loop .s .depth) (c .before .before .before .before .before .before .loop .s .touching)) (c .before .before .read .given .1) (c .before .before .before .before .read-token .ensures) in omega (arith, o .further, o .inside)
+loop-less c =
+    let s = c .before .before .before .before .before .before .before .before .before in
+    let l = c .before .before .before .before .before .before .loop in
+    let o : Over (s .args .text .now) (l .at) (scanOf (l .s)) _ _ _ = subst (Reads (s .args .text .now) (l .at) (l .s .want) (l .s .depth) (l .s .touching)) (c .before .before .read .given .1) (c .before .before .before .before .read-token .ensures) in
+    omega (arith, o .further, o .inside)
 
 loop-again : tie.Need-loop-again Inv-loop μ-loop
-loop-again c = turning-next _ _ _ (c .before .before .before .before .before .before .loop .inv) (c .after-token .result) _ _ (subst (Reads (c .before .before .before .before .before .before .before .before .before .args .text .now) (c .before .before .before .before .before .before .loop .at) (c .before .before .before .before .before .before .loop .s .want) (c .before .before .before .before .before .before .loop .s .depth) (c .before .before .before .before .before .before .loop .s .touching)) (c .before .before .read .given .1) (c .before .before .before .before .read-token .ensures)) (c .after-token .ensures)
+loop-again c =
+    let l = c .before .before .before .before .before .before .loop in
+    turning-next _ _ _ (l .inv) (c .after-token .result) _ _ (subst (Reads (c .before .before .before .before .before .before .before .before .before .args .text .now) (l .at) (l .s .want) (l .s .depth) (l .s .touching)) (c .before .before .read .given .1) (c .before .before .before .before .read-token .ensures)) (c .after-token .ensures)
 
 enum-known-read-2 : tie.Need-enum-known-read-2 Inv-loop μ-loop
 enum-known-read-2 c = search needs
 
 returns : tie.Need-returns Inv-loop μ-loop
-returns c = turning-stuck _ _ _ (c .before .before .before .before .before .loop .inv) _ (subst (Reads (c .before .before .before .before .before .before .before .before .args .text .now) (c .before .before .before .before .before .loop .at) (c .before .before .before .before .before .loop .s .want) (c .before .before .before .before .before .loop .s .depth) (c .before .before .before .before .before .loop .s .touching)) (c .before .read2 .given .1) (c .before .before .before .read-token .ensures))
+returns c =
+    let l = c .before .before .before .before .before .loop in
+    turning-stuck _ _ _ (l .inv) _ (subst (Reads (c .before .before .before .before .before .before .before .before .args .text .now) (l .at) (l .s .want) (l .s .depth) (l .s .touching)) (c .before .read2 .given .1) (c .before .before .before .read-token .ensures))
 
 may-end-requires : tie.Need-may-end-requires Inv-loop μ-loop
 may-end-requires c κs = search needs

@@ -14,7 +14,10 @@ one-byte-requires : tie.Need-one-byte-requires
 one-byte-requires c κs = search needs
 
 returns : tie.Need-returns
-returns c = let known = c .before .before .before .before .args in subst (Reads (known .text .now) (known .at) (known .s .want) (known .s .depth) (known .s .touching)) (sym (c .one-byte .ensures)) (space-over (known .text .now) (known .at) (c .before .before .before .before .pre) (known .s .touching) (at (wantOf (known .s .want)) (known .s .depth)) (c .before .if1 .taken))
+returns c =
+    let s = c .before .before .before .before in
+    let known = s .args in
+    subst (Reads (known .text .now) (known .at) (known .s .want) (known .s .depth) (known .s .touching)) (sym (c .one-byte .ensures)) (space-over (known .text .now) (known .at) (s .pre) (known .s .touching) (at (wantOf (known .s .want)) (known .s .depth)) (c .before .if1 .taken))
 
 enum-told : tie.Need-enum-told
 enum-told c = search needs

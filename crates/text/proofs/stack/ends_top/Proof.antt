@@ -24,10 +24,14 @@ element-copy-out-deep : tie.Need-element-copy-out-deep
 element-copy-out-deep c = search needs
 
 returns-2 : tie.Need-returns-2
-returns-2 c = top-deeper (c .before .before .before .args .stack .now) (c .before .before .before .args .top) (c .before .before .before .args .depth) (c .before .before .before .args .level) (c .before .before .if1 .left) (c .before .before .before .pre .1) (c .if2 .taken)
+returns-2 c =
+    let s = c .before .before .before in
+    top-deeper (s .args .stack .now) (s .args .top) (s .args .depth) (s .args .level) (c .before .before .if1 .left) (s .pre .1) (c .if2 .taken)
 
 returns-3 : tie.Need-returns-3
-returns-3 c = top-shallower (c .before .before .before .before .args .stack .now) (c .before .before .before .before .args .top) (c .before .before .before .before .args .depth) (c .before .before .before .before .args .level) (c .before .before .before .if1 .left) (c .before .before .before .before .pre .1) (c .if3 .taken)
+returns-3 c =
+    let s = c .before .before .before .before in
+    top-shallower (s .args .stack .now) (s .args .top) (s .args .depth) (s .args .level) (c .before .before .before .if1 .left) (s .pre .1) (c .if3 .taken)
 
 mul-level-of : tie.Need-mul-level-of
 mul-level-of c = search needs
@@ -39,7 +43,9 @@ level-of-requires : tie.Need-level-of-requires
 level-of-requires c κs = search needs
 
 returns-4 : tie.Need-returns-4
-returns-4 c = top-level (c .before .before .before .before .before .before .args .stack .now) (c .before .before .before .before .before .before .args .top) (c .before .before .before .before .before .before .args .depth) (c .before .before .before .before .before .before .args .level) (c .before .before .before .before .before .if1 .left) (c .before .before .before .before .before .before .pre .1) (omega (arith, c .before .before .before .if2 .left, c .before .before .if3 .left)) (c .level-of .result) (c .level-of .ensures)
+returns-4 c =
+    let s = c .before .before .before .before .before .before in
+    top-level (s .args .stack .now) (s .args .top) (s .args .depth) (s .args .level) (c .before .before .before .before .before .if1 .left) (s .pre .1) (omega (arith, c .before .before .before .if2 .left, c .before .before .if3 .left)) (c .level-of .result) (c .level-of .ensures)
 
 pub ends-top-spec : {M : Type 1} → statement M
 ends-top-spec =

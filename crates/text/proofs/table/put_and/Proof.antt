@@ -11,10 +11,21 @@ put-not-requires : tie.Need-put-not-requires
 put-not-requires c κs = search needs
 
 put-implies-requires : tie.Need-put-implies-requires
-put-implies-requires c κs = let h = c .before .put-not .ensures in let k = count-not (c .before .before .before .args .table .now) _ (c .before .before .before .args .n) _ (omega (arith, c .before .before .before .pre .0)) (c .before .before .before .pre .1) h in (omega (arith, k, c .before .before .before .pre .0), h .long, c .before .before .before .pre .2)
+put-implies-requires c κs =
+    let s = c .before .before .before in
+    let h = c .before .put-not .ensures in
+    let k = count-not (s .args .table .now) _ (s .args .n) _ (omega (arith, s .pre .0)) (s .pre .1) h in
+    (omega (arith, k, s .pre .0), h .long, s .pre .2)
 
 put-not-requires-2 : tie.Need-put-not-requires-2
-put-not-requires-2 c κs = let h = c .before .before .before .put-not .ensures in let k = count-not (c .before .before .before .before .before .args .table .now) _ (c .before .before .before .before .before .args .n) _ (omega (arith, c .before .before .before .before .before .pre .0)) (c .before .before .before .before .before .pre .1) h in let g = c .before .put-implies .ensures in let j = count-implies (c .before .before .before .put-not .last .0) _ (c .before .before .before .put-not .result) _ (omega (arith, k, c .before .before .before .before .before .pre .0)) (h .long) (c .before .before .before .before .before .args .left) g in (omega (arith, j, k, c .before .before .before .before .before .pre .0), g .long)
+put-not-requires-2 c κs =
+    let s = c .before .before .before .before .before in
+    let put-not = c .before .before .before .put-not in
+    let h = put-not .ensures in
+    let k = count-not (s .args .table .now) _ (s .args .n) _ (omega (arith, s .pre .0)) (s .pre .1) h in
+    let g = c .before .put-implies .ensures in
+    let j = count-implies (put-not .last .0) _ (put-not .result) _ (omega (arith, k, s .pre .0)) (h .long) (s .args .left) g in
+    (omega (arith, j, k, s .pre .0), g .long)
 
 returns : tie.Need-returns
 returns c = holds-after (putNot form32) (holds-after (putImplies form32 (c .before .before .before .before .before .before .args .left)) (c .before .before .before .before .put-not .ensures) (c .before .before .put-implies .ensures)) (c .put-not2 .ensures)

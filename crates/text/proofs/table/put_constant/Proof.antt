@@ -11,16 +11,26 @@ use Rattle.text.proofs.table.put_constant.Statement.{statement}
 use Rattle.text.proofs.table.put_constant.Tie as tie
 
 put-true-requires : tie.Need-put-true-requires
-put-true-requires c κs = let e = c .before .if1 .taken in (subst (λ b. c .before .before .args .n + tokenCost (word (constantWord b)) ≤ 32) e (c .before .before .pre .0), c .before .before .pre .1)
+put-true-requires c κs =
+    let s = c .before .before in
+    let e = c .before .if1 .taken in
+    (subst (λ b. s .args .n + tokenCost (word (constantWord b)) ≤ 32) e (s .pre .0), s .pre .1)
 
 put-false-requires : tie.Need-put-false-requires
-put-false-requires c κs = let e = c .before .if1 .left in let k = subst (λ b. c .before .before .args .n + tokenCost (word (constantWord b)) ≤ 32) e (c .before .before .pre .0) in (omega (arith, k), c .before .before .pre .1)
+put-false-requires c κs =
+    let s = c .before .before in
+    let e = c .before .if1 .left in
+    let k = subst (λ b. s .args .n + tokenCost (word (constantWord b)) ≤ 32) e (s .pre .0) in (omega (arith, k), s .pre .1)
 
 returns : tie.Need-returns
-returns c = holds-as (ap (λ b. putConstant form32 b (take (c .before .before .before .args .n) (c .before .before .before .args .table .now))) (sym (c .before .before .if1 .taken))) (c .put-true .ensures)
+returns c =
+    let s = c .before .before .before in
+    holds-as (ap (λ b. putConstant form32 b (take (s .args .n) (s .args .table .now))) (sym (c .before .before .if1 .taken))) (c .put-true .ensures)
 
 returns-2 : tie.Need-returns-2
-returns-2 c = holds-as (ap (λ b. putConstant form32 b (take (c .before .before .before .args .n) (c .before .before .before .args .table .now))) (sym (c .before .before .if1 .left))) (c .put-false .ensures)
+returns-2 c =
+    let s = c .before .before .before in
+    holds-as (ap (λ b. putConstant form32 b (take (s .args .n) (s .args .table .now))) (sym (c .before .before .if1 .left))) (c .put-false .ensures)
 
 pub put-constant-spec : {M : Type 1} → statement M
 put-constant-spec = tie.close (tie.spec put-true-requires put-false-requires returns returns-2)

@@ -32,43 +32,75 @@ put-prev-requires : tie.Need-put-prev-requires
 put-prev-requires c κs = let e = ap (λ w. finishCost (waitingOf w)) (c .before .match .keys3) in (omega (arith, e, c .before .before .pre .0), c .before .before .pre .1)
 
 put-since-requires : tie.Need-put-since-requires
-put-since-requires c κs = let e = ap (λ w. finishCost (waitingOf w)) (c .before .match .keys4) in (omega (arith, e, c .before .before .pre .0), c .before .before .pre .1, c .before .before .pre .2)
+put-since-requires c κs =
+    let s = c .before .before in
+    let e = ap (λ w. finishCost (waitingOf w)) (c .before .match .keys4) in
+    (omega (arith, e, s .pre .0), s .pre .1, s .pre .2)
 
 put-sofar-requires : tie.Need-put-sofar-requires
-put-sofar-requires c κs = let e = ap (λ w. finishCost (waitingOf w)) (c .before .match .keys5) in (omega (arith, e, c .before .before .pre .0), c .before .before .pre .1, c .before .before .pre .2)
+put-sofar-requires c κs =
+    let s = c .before .before in
+    let e = ap (λ w. finishCost (waitingOf w)) (c .before .match .keys5) in
+    (omega (arith, e, s .pre .0), s .pre .1, s .pre .2)
 
 put-since-requires-2 : tie.Need-put-since-requires-2
-put-since-requires-2 c κs = let e = ap (λ w. finishCost (waitingOf w)) (c .before .match .keys6) in (omega (arith, e, c .before .before .pre .0), c .before .before .pre .1, c .before .before .pre .2)
+put-since-requires-2 c κs =
+    let s = c .before .before in
+    let e = ap (λ w. finishCost (waitingOf w)) (c .before .match .keys6) in
+    (omega (arith, e, s .pre .0), s .pre .1, s .pre .2)
 
 put-and-requires : tie.Need-put-and-requires
-put-and-requires c κs = let e = ap (λ w. finishCost (waitingOf w)) (c .before .match .keys7) in (omega (arith, e, c .before .before .pre .0), c .before .before .pre .1, c .before .before .pre .2)
+put-and-requires c κs =
+    let s = c .before .before in
+    let e = ap (λ w. finishCost (waitingOf w)) (c .before .match .keys7) in
+    (omega (arith, e, s .pre .0), s .pre .1, s .pre .2)
 
 put-implies-requires : tie.Need-put-implies-requires
-put-implies-requires c κs = let e = ends-alike form32 (c .before .before .args .word) 0 [] (above (c .before .before .args .word) (c .before .match .rest .0 .0 .0 .0 .0 .0 .1) (c .before .match .rest .0 .0 .0 .0 .0 .1) (c .before .match .rest .0 .0 .0 .0 .1) (c .before .match .rest .0 .0 .0 .1) (c .before .match .rest .0 .0 .1) (c .before .match .rest .0 .1) (c .before .match .rest .1)) .0 in (omega (arith, e, c .before .before .pre .0), c .before .before .pre .1, c .before .before .pre .2)
+put-implies-requires c κs =
+    let s = c .before .before in
+    let e = ends-alike form32 (s .args .word) 0 [] (above (s .args .word) (c .before .match .rest .0 .0 .0 .0 .0 .0 .1) (c .before .match .rest .0 .0 .0 .0 .0 .1) (c .before .match .rest .0 .0 .0 .0 .1) (c .before .match .rest .0 .0 .0 .1) (c .before .match .rest .0 .0 .1) (c .before .match .rest .0 .1) (c .before .match .rest .1)) .0 in
+    (omega (arith, e, s .pre .0), s .pre .1, s .pre .2)
 
 returns : tie.Need-returns
-returns c = holds-as (ap (λ w. finishes form32 (waitingOf w) (c .before .before .before .args .left) (take (c .before .before .before .args .n) (c .before .before .before .args .table .now))) (sym (c .before .before .match .keys1))) (c .put-not .ensures)
+returns c =
+    let s = c .before .before .before in
+    holds-as (ap (λ w. finishes form32 (waitingOf w) (s .args .left) (take (s .args .n) (s .args .table .now))) (sym (c .before .before .match .keys1))) (c .put-not .ensures)
 
 returns-2 : tie.Need-returns-2
-returns-2 c = holds-as (ap (λ w. finishes form32 (waitingOf w) (c .before .before .before .args .left) (take (c .before .before .before .args .n) (c .before .before .before .args .table .now))) (sym (c .before .before .match .keys2))) (c .put-weak .ensures)
+returns-2 c =
+    let s = c .before .before .before in
+    holds-as (ap (λ w. finishes form32 (waitingOf w) (s .args .left) (take (s .args .n) (s .args .table .now))) (sym (c .before .before .match .keys2))) (c .put-weak .ensures)
 
 returns-3 : tie.Need-returns-3
-returns-3 c = holds-as (ap (λ w. finishes form32 (waitingOf w) (c .before .before .before .args .left) (take (c .before .before .before .args .n) (c .before .before .before .args .table .now))) (sym (c .before .before .match .keys3))) (c .put-prev .ensures)
+returns-3 c =
+    let s = c .before .before .before in
+    holds-as (ap (λ w. finishes form32 (waitingOf w) (s .args .left) (take (s .args .n) (s .args .table .now))) (sym (c .before .before .match .keys3))) (c .put-prev .ensures)
 
 returns-4 : tie.Need-returns-4
-returns-4 c = holds-as (ap (λ w. finishes form32 (waitingOf w) (c .before .before .before .args .left) (take (c .before .before .before .args .n) (c .before .before .before .args .table .now))) (sym (c .before .before .match .keys4))) (c .put-since .ensures)
+returns-4 c =
+    let s = c .before .before .before in
+    holds-as (ap (λ w. finishes form32 (waitingOf w) (s .args .left) (take (s .args .n) (s .args .table .now))) (sym (c .before .before .match .keys4))) (c .put-since .ensures)
 
 returns-5 : tie.Need-returns-5
-returns-5 c = holds-as (ap (λ w. finishes form32 (waitingOf w) (c .before .before .before .args .left) (take (c .before .before .before .args .n) (c .before .before .before .args .table .now))) (sym (c .before .before .match .keys5))) (c .put-sofar .ensures)
+returns-5 c =
+    let s = c .before .before .before in
+    holds-as (ap (λ w. finishes form32 (waitingOf w) (s .args .left) (take (s .args .n) (s .args .table .now))) (sym (c .before .before .match .keys5))) (c .put-sofar .ensures)
 
 returns-6 : tie.Need-returns-6
-returns-6 c = holds-as (ap (λ w. finishes form32 (waitingOf w) (c .before .before .before .args .left) (take (c .before .before .before .args .n) (c .before .before .before .args .table .now))) (sym (c .before .before .match .keys6))) (c .put-since2 .ensures)
+returns-6 c =
+    let s = c .before .before .before in
+    holds-as (ap (λ w. finishes form32 (waitingOf w) (s .args .left) (take (s .args .n) (s .args .table .now))) (sym (c .before .before .match .keys6))) (c .put-since2 .ensures)
 
 returns-7 : tie.Need-returns-7
-returns-7 c = holds-as (ap (λ w. finishes form32 (waitingOf w) (c .before .before .before .args .left) (take (c .before .before .before .args .n) (c .before .before .before .args .table .now))) (sym (c .before .before .match .keys7))) (c .put-and .ensures)
+returns-7 c =
+    let s = c .before .before .before in
+    holds-as (ap (λ w. finishes form32 (waitingOf w) (s .args .left) (take (s .args .n) (s .args .table .now))) (sym (c .before .before .match .keys7))) (c .put-and .ensures)
 
 returns-8 : tie.Need-returns-8
-returns-8 c = holds-as (ends-alike form32 (c .before .before .before .args .word) (c .before .before .before .args .left) (take (c .before .before .before .args .n) (c .before .before .before .args .table .now)) (above (c .before .before .before .args .word) (c .before .before .match .rest .0 .0 .0 .0 .0 .0 .1) (c .before .before .match .rest .0 .0 .0 .0 .0 .1) (c .before .before .match .rest .0 .0 .0 .0 .1) (c .before .before .match .rest .0 .0 .0 .1) (c .before .before .match .rest .0 .0 .1) (c .before .before .match .rest .0 .1) (c .before .before .match .rest .1)) .1) (c .put-implies .ensures)
+returns-8 c =
+    let s = c .before .before .before in
+    let keys = c .before .before .match in
+    holds-as (ends-alike form32 (s .args .word) (s .args .left) (take (s .args .n) (s .args .table .now)) (above (s .args .word) (keys .rest .0 .0 .0 .0 .0 .0 .1) (keys .rest .0 .0 .0 .0 .0 .1) (keys .rest .0 .0 .0 .0 .1) (keys .rest .0 .0 .0 .1) (keys .rest .0 .0 .1) (keys .rest .0 .1) (keys .rest .1)) .1) (c .put-implies .ensures)
 
 pub put-end-spec : {M : Type 1} → statement M
 put-end-spec =

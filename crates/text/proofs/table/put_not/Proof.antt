@@ -13,10 +13,16 @@ less-one-requires : tie.Need-less-one-requires
 less-one-requires c κs = search needs
 
 put-implies-requires : tie.Need-put-implies-requires
-put-implies-requires c κs = let n = c .before .before .put-false .ensures in let k = count-put (c .before .before .before .before .args .table .now) _ (c .before .before .before .before .args .n) _ (omega (arith, c .before .before .before .before .pre .0)) (c .before .before .before .before .pre .1) falseNode n in (omega (arith, k, c .before .before .before .before .pre .0), n .long, omega (arith, c .less-one .ensures, c .before .before .before .before .pre .0))
+put-implies-requires c κs =
+    let s = c .before .before .before .before in
+    let n = c .before .before .put-false .ensures in
+    let k = count-put (s .args .table .now) _ (s .args .n) _ (omega (arith, s .pre .0)) (s .pre .1) falseNode n in
+    (omega (arith, k, s .pre .0), n .long, omega (arith, c .less-one .ensures, s .pre .0))
 
 returns : tie.Need-returns
-returns c = holds-not (c .before .before .before .before .before .args .table .now) _ _ (c .before .before .before .before .before .args .n) _ _ (c .before .less-one .result) (omega (arith, c .before .before .before .before .before .pre .0)) (c .before .before .before .before .before .pre .1) (c .before .less-one .ensures) (c .before .before .before .put-false .ensures) (c .put-implies .ensures)
+returns c =
+    let s = c .before .before .before .before .before in
+    holds-not (s .args .table .now) _ _ (s .args .n) _ _ (c .before .less-one .result) (omega (arith, s .pre .0)) (s .pre .1) (c .before .less-one .ensures) (c .before .before .before .put-false .ensures) (c .put-implies .ensures)
 
 pub put-not-spec : {M : Type 1} → statement M
 put-not-spec =

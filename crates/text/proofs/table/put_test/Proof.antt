@@ -32,10 +32,14 @@ put-word-requires-2 : tie.Need-put-word-requires-2
 put-word-requires-2 c κs = search needs
 
 returns : tie.Need-returns
-returns c = subst (λ b. Holds (c .put-word .last .0) (c .put-word .result) (put form32 (testNode (testOf (comparisonOf b) (c .before .before .before .args .register) (c .before .before .before .args .constant))) (take (c .before .before .before .args .n) (c .before .before .before .args .table .now)))) (sym (c .before .before .if1 .taken)) (holds-below (c .before .before .before .args .table .now) _ (c .before .before .before .args .n) _ _ (c .before .before .before .args .register) (c .before .before .before .args .constant) refl (c .put-word .ensures))
+returns c =
+    let s = c .before .before .before in
+    subst (λ b. Holds (c .put-word .last .0) (c .put-word .result) (put form32 (testNode (testOf (comparisonOf b) (s .args .register) (s .args .constant))) (take (s .args .n) (s .args .table .now)))) (sym (c .before .before .if1 .taken)) (holds-below (s .args .table .now) _ (s .args .n) _ _ (s .args .register) (s .args .constant) refl (c .put-word .ensures))
 
 returns-2 : tie.Need-returns-2
-returns-2 c = subst (λ b. Holds (c .put-word2 .last .0) (c .put-word2 .result) (put form32 (testNode (testOf (comparisonOf b) (c .before .before .before .args .register) (c .before .before .before .args .constant))) (take (c .before .before .before .args .n) (c .before .before .before .args .table .now)))) (sym (c .before .before .if1 .left)) (holds-equal (c .before .before .before .args .table .now) _ (c .before .before .before .args .n) _ _ (c .before .before .before .args .register) (c .before .before .before .args .constant) refl (c .put-word2 .ensures))
+returns-2 c =
+    let s = c .before .before .before in
+    subst (λ b. Holds (c .put-word2 .last .0) (c .put-word2 .result) (put form32 (testNode (testOf (comparisonOf b) (s .args .register) (s .args .constant))) (take (s .args .n) (s .args .table .now)))) (sym (c .before .before .if1 .left)) (holds-equal (s .args .table .now) _ (s .args .n) _ _ (s .args .register) (s .args .constant) refl (c .put-word2 .ensures))
 
 pub put-test-spec : {M : Type 1} → statement M
 put-test-spec =

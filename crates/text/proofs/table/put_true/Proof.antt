@@ -11,7 +11,11 @@ put-false-requires : tie.Need-put-false-requires
 put-false-requires c κs = search needs
 
 put-not-requires : tie.Need-put-not-requires
-put-not-requires c κs = let h = c .before .put-false .ensures in let k = count-put (c .before .before .before .args .table .now) _ (c .before .before .before .args .n) _ (omega (arith, c .before .before .before .pre .0)) (c .before .before .before .pre .1) falseNode h in (omega (arith, k, c .before .before .before .pre .0), h .long)
+put-not-requires c κs =
+    let s = c .before .before .before in
+    let h = c .before .put-false .ensures in
+    let k = count-put (s .args .table .now) _ (s .args .n) _ (omega (arith, s .pre .0)) (s .pre .1) falseNode h in
+    (omega (arith, k, s .pre .0), h .long)
 
 returns : tie.Need-returns
 unfolding putTrue

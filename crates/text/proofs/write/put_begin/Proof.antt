@@ -20,16 +20,25 @@ put-not-requires : tie.Need-put-not-requires
 put-not-requires c κs = let e = ap (λ w. beginCost (waitingOf w)) (c .before .match .keys3) in (omega (arith, e, c .before .before .pre .0), c .before .before .pre .1)
 
 returns : tie.Need-returns
-returns c = holds-as (ap (λ w. begins form32 (waitingOf w) (take (c .before .before .before .args .n) (c .before .before .before .args .table .now))) (sym (c .before .before .match .keys1))) (c .put-true .ensures)
+returns c =
+    let s = c .before .before .before in
+    holds-as (ap (λ w. begins form32 (waitingOf w) (take (s .args .n) (s .args .table .now))) (sym (c .before .before .match .keys1))) (c .put-true .ensures)
 
 returns-2 : tie.Need-returns-2
-returns-2 c = holds-as (ap (λ w. begins form32 (waitingOf w) (take (c .before .before .before .args .n) (c .before .before .before .args .table .now))) (sym (c .before .before .match .keys2))) (c .put-true2 .ensures)
+returns-2 c =
+    let s = c .before .before .before in
+    holds-as (ap (λ w. begins form32 (waitingOf w) (take (s .args .n) (s .args .table .now))) (sym (c .before .before .match .keys2))) (c .put-true2 .ensures)
 
 returns-3 : tie.Need-returns-3
-returns-3 c = holds-as (ap (λ w. begins form32 (waitingOf w) (take (c .before .before .before .args .n) (c .before .before .before .args .table .now))) (sym (c .before .before .match .keys3))) (c .put-not .ensures)
+returns-3 c =
+    let s = c .before .before .before in
+    holds-as (ap (λ w. begins form32 (waitingOf w) (take (s .args .n) (s .args .table .now))) (sym (c .before .before .match .keys3))) (c .put-not .ensures)
 
 returns-4 : tie.Need-returns-4
-returns-4 c = let ws = take (c .before .args .n) (c .before .args .table .now) in holds-as (begins-alike form32 (c .before .args .word) ws (c .match .rest .0 .0 .1) (c .match .rest .0 .1) (c .match .rest .1)) (holds-here (c .before .args .table .now) (c .before .args .n) (omega (arith, c .before .pre .0)) (c .before .pre .1))
+returns-4 c =
+    let s = c .before in
+    let ws = take (s .args .n) (s .args .table .now) in
+    holds-as (begins-alike form32 (s .args .word) ws (c .match .rest .0 .0 .1) (c .match .rest .0 .1) (c .match .rest .1)) (holds-here (s .args .table .now) (s .args .n) (omega (arith, s .pre .0)) (s .pre .1))
 
 pub put-begin-spec : {M : Type 1} → statement M
 put-begin-spec =

@@ -83,10 +83,17 @@ returns-2 : tie.Need-returns-2
 returns-2 c = let told = c .before .before .before .before .token .given .1 in took told (with-pen (c .at-height .ensures) (taken-constant _ _ _ _ _ _ _ (ready-as told (c .before .before .before .before .before .before .before .pre)) (c .before .put-constant .ensures)))
 
 returns-3 : tie.Need-returns-3
-returns-3 c = let told = c .before .before .before .before .before .before .token2 .given .1 in took told (with-pen (c .at-height2 .ensures) (taken-prefix _ _ _ _ _ (c .before .before .prefix-number .result) (c .before .before .prefix-number .ensures) (ready-as told (c .before .before .before .before .before .before .before .before .before .pre)) _ _ _ _ (c .before .wait .ensures)))
+returns-3 c =
+    let prefix-number = c .before .before .prefix-number in
+    let told = c .before .before .before .before .before .before .token2 .given .1 in
+    took told (with-pen (c .at-height2 .ensures) (taken-prefix _ _ _ _ _ (prefix-number .result) (prefix-number .ensures) (ready-as told (c .before .before .before .before .before .before .before .before .before .pre)) _ _ _ _ (c .before .wait .ensures)))
 
 returns-4 : tie.Need-returns-4
-returns-4 c = let told = c .before .before .before .before .before .before .before .token3 .given .1 in took told (with-pen (c .at-height3 .ensures) (taken-operator _ _ _ _ _ (c .before .before .before .operator-number .result) (c .before .before .operator-level .result) (c .before .before .before .operator-number .ensures) (c .before .before .operator-level .ensures) (ready-as told (c .before .before .before .before .before .before .before .before .before .before .pre)) _ _ _ _ (c .before .join .ensures)))
+returns-4 c =
+    let operator-number = c .before .before .before .operator-number in
+    let operator-level = c .before .before .operator-level in
+    let told = c .before .before .before .before .before .before .before .token3 .given .1 in
+    took told (with-pen (c .at-height3 .ensures) (taken-operator _ _ _ _ _ (operator-number .result) (operator-level .result) (operator-number .ensures) (operator-level .ensures) (ready-as told (c .before .before .before .before .before .before .before .before .before .before .pre)) _ _ _ _ (c .before .join .ensures)))
 
 returns-5 : tie.Need-returns-5
 returns-5 c = took (c .before .before .token4 .given .1) (with-pen (c .with-atom .ensures) (taken-register _ _ _ _ _ (c .before .before .before .before .before .pre .fits)))

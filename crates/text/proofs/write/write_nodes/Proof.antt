@@ -21,7 +21,9 @@ wanting-requires : tie.Need-wanting-requires Inv-loop μ-loop
 wanting-requires c κs = search needs
 
 loop-holds : tie.Need-loop-holds Inv-loop μ-loop
-loop-holds c = writing-start (c .before .before .args .text .now) (c .before .before .args .table .now) (c .wanting .result) (c .before .before .pre .0) (c .before .before .pre .1) (c .before .before .pre .2) (c .wanting .ensures)
+loop-holds c =
+    let s = c .before .before in
+    writing-start (s .args .text .now) (s .args .table .now) (c .wanting .result) (s .pre .0) (s .pre .1) (s .pre .2) (c .wanting .ensures)
 
 read-token-requires : tie.Need-read-token-requires Inv-loop μ-loop
 read-token-requires c κs = search needs
@@ -33,7 +35,9 @@ enum-told : tie.Need-enum-told Inv-loop μ-loop
 enum-told c = search needs
 
 returns : tie.Need-returns Inv-loop μ-loop
-returns c = writing-stuck _ _ _ _ _ _ _ (c .before .before .before .before .loop .inv) _ (subst (Reads (c .before .before .before .before .before .before .before .args .text .now) (c .before .before .before .before .loop .at) (c .before .before .before .before .loop .s .want) (c .before .before .before .before .loop .s .depth) (c .before .before .before .before .loop .s .touching)) (c .enum-told .given .1) (c .before .before .read-token .ensures))
+returns c =
+    let l = c .before .before .before .before .loop in
+    writing-stuck _ _ _ _ _ _ _ (l .inv) _ (subst (Reads (c .before .before .before .before .before .before .before .args .text .now) (l .at) (l .s .want) (l .s .depth) (l .s .touching)) (c .enum-told .given .1) (c .before .before .read-token .ensures))
 
 nodes-for-requires : tie.Need-nodes-for-requires Inv-loop μ-loop
 nodes-for-requires c κs = search needs
@@ -42,19 +46,33 @@ add-total : tie.Need-add-total Inv-loop μ-loop
 add-total c = omega (arith, c .before .before .before .before .before .before .loop .inv .few, c .nodes-for .ensures, cost-small (c .before .before .read .given .0 .0))
 
 returns-2 : tie.Need-returns-2 Inv-loop μ-loop
-returns-2 c = subst (λ n. TableOf (c .before .before .before .before .before .before .before .before .before .before .args .text .now) (c .before .before .before .before .before .before .before .loop .table) (c .before .before .before .before .before .before .before .loop .total + n)) (sym (c .before .nodes-for .ensures)) (writing-many _ _ _ _ _ _ _ (c .before .before .before .before .before .before .before .loop .inv) _ _ (subst (Reads (c .before .before .before .before .before .before .before .before .before .before .args .text .now) (c .before .before .before .before .before .before .before .loop .at) (c .before .before .before .before .before .before .before .loop .s .want) (c .before .before .before .before .before .before .before .loop .s .depth) (c .before .before .before .before .before .before .before .loop .s .touching)) (c .before .before .before .read .given .1) (c .before .before .before .before .before .read-token .ensures)) _ (omega (arith, c .if1 .taken, c .before .nodes-for .ensures)))
+returns-2 c =
+    let s = c .before .before .before .before .before .before .before .before .before .before in
+    let l = c .before .before .before .before .before .before .before .loop in
+    subst (λ n. TableOf (s .args .text .now) (l .table) (l .total + n)) (sym (c .before .nodes-for .ensures)) (writing-many _ _ _ _ _ _ _ (l .inv) _ _ (subst (Reads (s .args .text .now) (l .at) (l .s .want) (l .s .depth) (l .s .touching)) (c .before .before .before .read .given .1) (c .before .before .before .before .before .read-token .ensures)) _ (omega (arith, c .if1 .taken, c .before .nodes-for .ensures)))
 
 take-token-requires : tie.Need-take-token-requires Inv-loop μ-loop
-take-token-requires c κs = writing-ready _ _ _ _ _ _ _ (c .before .before .before .before .before .before .before .before .before .loop .inv) _ _ (subst (Reads (c .before .before .before .before .before .before .before .before .before .before .before .before .args .text .now) (c .before .before .before .before .before .before .before .before .before .loop .at) (c .before .before .before .before .before .before .before .before .before .loop .s .want) (c .before .before .before .before .before .before .before .before .before .loop .s .depth) (c .before .before .before .before .before .before .before .before .before .loop .s .touching)) (c .before .before .before .before .before .read .given .1) (c .before .before .before .before .before .before .before .read-token .ensures)) (omega (arith, c .before .before .if1 .left, c .before .before .before .nodes-for .ensures))
+take-token-requires c κs =
+    let l = c .before .before .before .before .before .before .before .before .before .loop in
+    writing-ready _ _ _ _ _ _ _ (l .inv) _ _ (subst (Reads (c .before .before .before .before .before .before .before .before .before .before .before .before .args .text .now) (l .at) (l .s .want) (l .s .depth) (l .s .touching)) (c .before .before .before .before .before .read .given .1) (c .before .before .before .before .before .before .before .read-token .ensures)) (omega (arith, c .before .before .if1 .left, c .before .before .before .nodes-for .ensures))
 
 after-token-requires : tie.Need-after-token-requires Inv-loop μ-loop
 after-token-requires c κs = omega (arith, c .before .before .before .before .before .before .before .before .before .before .loop .inv .turning .shallow, c .before .before .before .before .before .before .before .before .before .loop-test .taken)
 
 loop-less : tie.Need-loop-less Inv-loop μ-loop
-loop-less c = let o : Over (c .before .before .before .before .before .before .before .before .before .before .before .before .before .before .args .text .now) (c .before .before .before .before .before .before .before .before .before .before .before .loop .at) (scanOf (c .before .before .before .before .before .before .before .before .before .before .before .loop .s)) _ _ _ = subst (Reads (c .before .before .before .before .before .before .before .before .before .before .before .before .before .before .args .text .now) (c .before .before .before .before .before .before .before .before .before .before .before .loop .at) (c .before .before .before .before .before .before .before .before .before .before .before .loop .s .want) (c .before .before .before .before .before .before .before .before .before .before .before .loop .s .depth) (c .before .before .before .before .before .before .before .before .before .before .before .loop .s .touching)) (c .before .before .before .before .before .before .before .read .given .1) (c .before .before .before .before .before .before .before .before .before .read-token .ensures) in omega (arith, o .further, o .inside)
+loop-less c =
+    let s = c .before .before .before .before .before .before .before .before .before .before .before .before .before .before in
+    let l = c .before .before .before .before .before .before .before .before .before .before .before .loop in
+    let o : Over (s .args .text .now) (l .at) (scanOf (l .s)) _ _ _ = subst (Reads (s .args .text .now) (l .at) (l .s .want) (l .s .depth) (l .s .touching)) (c .before .before .before .before .before .before .before .read .given .1) (c .before .before .before .before .before .before .before .before .before .read-token .ensures) in
+    omega (arith, o .further, o .inside)
 
 loop-again : tie.Need-loop-again Inv-loop μ-loop
-loop-again c = subst (λ n. Writing (c .before .before .before .before .before .before .before .before .before .before .before .before .before .before .args .text .now) (c .before .take-token .last .1 .1 .1 .0) (c .before .take-token .last .1 .1 .1 .1 .0) (c .before .take-token .result) (c .after-token .result) (c .before .before .before .before .before .before .before .before .before .before .before .loop .total + n) (c .before .before .before .before .before .before .before .read .given .0 .1 .0)) (sym (c .before .before .before .before .before .nodes-for .ensures)) (writing-next _ _ _ _ _ _ _ (c .before .before .before .before .before .before .before .before .before .before .before .loop .inv) _ _ (subst (Reads (c .before .before .before .before .before .before .before .before .before .before .before .before .before .before .args .text .now) (c .before .before .before .before .before .before .before .before .before .before .before .loop .at) (c .before .before .before .before .before .before .before .before .before .before .before .loop .s .want) (c .before .before .before .before .before .before .before .before .before .before .before .loop .s .depth) (c .before .before .before .before .before .before .before .before .before .before .before .loop .s .touching)) (c .before .before .before .before .before .before .before .read .given .1) (c .before .before .before .before .before .before .before .before .before .read-token .ensures)) (omega (arith, c .before .before .before .before .if1 .left, c .before .before .before .before .before .nodes-for .ensures)) _ _ (c .before .take-token .result) (c .after-token .result) (c .before .take-token .ensures) (c .after-token .ensures))
+loop-again c =
+    let s = c .before .before .before .before .before .before .before .before .before .before .before .before .before .before in
+    let l = c .before .before .before .before .before .before .before .before .before .before .before .loop in
+    let read = c .before .before .before .before .before .before .before .read in
+    let nodes-for = c .before .before .before .before .before .nodes-for in
+    subst (λ n. Writing (s .args .text .now) (c .before .take-token .last .1 .1 .1 .0) (c .before .take-token .last .1 .1 .1 .1 .0) (c .before .take-token .result) (c .after-token .result) (l .total + n) (read .given .0 .1 .0)) (sym (nodes-for .ensures)) (writing-next _ _ _ _ _ _ _ (l .inv) _ _ (subst (Reads (s .args .text .now) (l .at) (l .s .want) (l .s .depth) (l .s .touching)) (read .given .1) (c .before .before .before .before .before .before .before .before .before .read-token .ensures)) (omega (arith, c .before .before .before .before .if1 .left, nodes-for .ensures)) _ _ (c .before .take-token .result) (c .after-token .result) (c .before .take-token .ensures) (c .after-token .ensures))
 
 unwind-requires : tie.Need-unwind-requires Inv-loop μ-loop
 unwind-requires c κs = (c .before .before .before .before .loop .inv .fits, omega arith)
