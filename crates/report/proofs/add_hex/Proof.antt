@@ -34,7 +34,8 @@ returns : tie.Need-returns
 returns c =
     let s = c .before .before .before .before .before .before .before .before in
     let hex = c .before .before .before .before .before .hex in
-    filled-as 8 (let n = hex-length (s .args .word) in omega arith) (added-as _ (hexText (s .args .word)) _ _ _ _ (hex-text (s .args .word) _ _ (omega arith) (hex .ensures .1 .0) (hex .ensures .1 .1)) (c .before .before .add-bytes .ensures))
+    filled-as 8 (let n = hex-length (s .args .word) in omega arith) (added-as _ (hexText (s .args .word)) _ _ _ _ (hex-text (s .args .word) _ _
+    (omega arith) (hex .ensures .1 .0) (hex .ensures .1 .1)) (c .before .before .add-bytes .ensures))
 
 pub add-hex-spec : {M : Type 1} → statement M
 add-hex-spec =

@@ -12,13 +12,17 @@ slice-aggregate-add-bytes : tie.Need-slice-aggregate-add-bytes
 slice-aggregate-add-bytes c = search needs
 
 add-bytes-requires : tie.Need-add-bytes-requires
-add-bytes-requires c κs = let room = c .before .before .before .before .before .before .before .pre in filled-room 1 (omega arith) (c .before .before .before .before .add-hex .ensures)
+add-bytes-requires c κs =
+    let room = c .before .before .before .before .before .before .before .pre in
+    filled-room 1 (omega arith) (c .before .before .before .before .add-hex .ensures)
 
 same-length : tie.Need-same-length
 same-length c = search needs
 
 returns : tie.Need-returns
-returns c = filled-then (omega arith) (c .before .before .before .before .before .before .before .add-hex .ensures) (filled-as 1 (omega arith) (c .before .before .add-bytes .ensures))
+returns c =
+    filled-then (omega arith) (c .before .before .before .before .before .before .before .add-hex .ensures) (filled-as 1 (omega arith)
+    (c .before .before .add-bytes .ensures))
 
 pub add-node-spec : {M : Type 1} → statement M
 add-node-spec =

@@ -18,7 +18,14 @@ abbrev μ-loop : tie.MeasureT-loop
 μ-loop words n out₀ end₀ i₀ out end i = n - i
 
 loop-holds : tie.Need-loop-holds Inv-loop μ-loop
-loop-holds c = (search needs, search needs, search needs, search needs, each-start (nodeAt (c .before .before .args .words .now)) 9 0 (c .before .before .args .out .now))
+loop-holds c = (
+  search needs,
+  search needs,
+  search needs,
+  search needs,
+  each-start (nodeAt (c .before .before .args .words .now)) 9 0
+      (c .before .before .args .out .now),
+)
 
 mul-add-node : tie.Need-mul-add-node Inv-loop μ-loop
 mul-add-node c = search needs
@@ -39,8 +46,14 @@ loop-again : tie.Need-loop-again Inv-loop μ-loop
 loop-again c =
     let s = c .before .before .before .before .before .before .before .before .before in
     let l = c .before .before .before .before .before .before .loop in
-    let add-node = c .before .before .add-node in
-    (search needs, search needs, search needs, add-node .kept .1 .1 .0 ∙ l .inv .3, each-next (nodeAt (s .args .words .now)) 9 0 (s .args .out .now) (l .i) (l .end) (add-node .result) (l .out) (add-node .last .1 .1 .0) (omega arith) (l .inv .4) (add-node .ensures))
+    let add-node = c .before .before .add-node in (
+      search needs,
+      search needs,
+      search needs,
+      add-node .kept .1 .1 .0 ∙ l .inv .3,
+      each-next (nodeAt (s .args .words .now)) 9 0 (s .args .out .now)
+          (l .i) (l .end) (add-node .result) (l .out) (add-node .last .1 .1 .0) (omega arith) (l .inv .4) (add-node .ensures),
+    )
 
 same-length : tie.Need-same-length Inv-loop μ-loop
 same-length c = search needs
@@ -49,7 +62,8 @@ returns : tie.Need-returns Inv-loop μ-loop
 returns c =
     let s = c .before .before .before .before in
     let all : c .before .loop .i ≡ s .args .n = omega arith in
-    added-as _ _ _ _ _ _ (ap (eachOf (nodeAt (s .args .words .now))) all ∙ nodes-all (s .args .words .now) (s .args .n) (c .before .loop .inv .0)) (c .before .loop .inv .4 .added)
+    added-as _ _ _ _ _ _ (ap (eachOf (nodeAt (s .args .words .now))) all ∙ nodes-all (s .args .words .now) (s .args .n) (c .before .loop .inv .0))
+    (c .before .loop .inv .4 .added)
 
 pub add-nodes-spec : {M : Type 1} → statement M
 add-nodes-spec =

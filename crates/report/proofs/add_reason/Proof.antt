@@ -18,7 +18,9 @@ same-length c = search needs
 returns : tie.Need-returns
 returns c =
     let s = c .before .before .before .before .before .before .before .before .before .before .before in
-    added-as _ _ _ _ _ _ (reason-grammar (s .args .text .now) (s .args .question) (s .args .place) (c .before .before .before .before .before .before .before .before .if1 .taken)) (filled-then (omega arith) (c .before .before .before .before .before .before .add-mark .ensures) (c .before .before .add-expected .ensures) .added)
+    added-as _ _ _ _ _ _ (reason-grammar (s .args .text .now) (s .args .question) (s .args .place)
+    (c .before .before .before .before .before .before .before .before .if1 .taken)) (filled-then (omega arith)
+    (c .before .before .before .before .before .before .add-mark .ensures) (c .before .before .add-expected .ensures) .added)
 
 add-mark-requires-2 : tie.Need-add-mark-requires-2
 add-mark-requires-2 c κs = search needs
@@ -35,7 +37,10 @@ same-length-2 c = search needs
 returns-2 : tie.Need-returns-2
 returns-2 c =
     let s = c .before .before .before .before .before .before .before .before .before .before .before .before .before in
-    added-as _ _ _ _ _ _ (reason-range (s .args .text .now) (s .args .question) (s .args .place) (c .before .before .before .before .before .before .before .before .before .before .if1 .left) (c .before .before .before .before .before .before .before .before .before .if2 .taken)) (filled-last (omega arith) (c .before .before .before .before .before .before .before .add-mark2 .ensures) (c .before .before .add-bytes .ensures))
+    added-as _ _ _ _ _ _ (reason-range (s .args .text .now) (s .args .question) (s .args .place)
+    (c .before .before .before .before .before .before .before .before .before .before .if1 .left)
+    (c .before .before .before .before .before .before .before .before .before .if2 .taken)) (filled-last (omega arith)
+    (c .before .before .before .before .before .before .before .add-mark2 .ensures) (c .before .before .add-bytes .ensures))
 
 slice-aggregate-add-bytes-2 : tie.Need-slice-aggregate-add-bytes-2
 slice-aggregate-add-bytes-2 c = search needs
@@ -49,7 +54,9 @@ same-length-3 c = search needs
 returns-3 : tie.Need-returns-3
 returns-3 c =
     let s = c .before .before .before .before .before .before .before .before .before in
-    added-as _ _ _ _ _ _ (reason-nodes (s .args .text .now) (s .args .question) (s .args .place) (c .before .before .before .before .before .before .if1 .left) (c .before .before .before .before .before .if2 .left)) (c .before .before .add-bytes2 .ensures)
+    added-as _ _ _ _ _ _ (reason-nodes (s .args .text .now) (s .args .question) (s .args .place)
+    (c .before .before .before .before .before .before .if1 .left) (c .before .before .before .before .before .if2 .left))
+    (c .before .before .add-bytes2 .ensures)
 
 pub add-reason-spec : {M : Type 1} → statement M
 add-reason-spec =

@@ -19,7 +19,8 @@ returns : tie.Need-returns
 returns c =
     let text-length = c .before .before .before .before .text-length in
     let t = text-length .ensures in
-    at-start _ _ _ _ _ (compiled-long (c .before .before .before .before .before .before .args .bytes .now) (text-length .result) (t .0) (t .1) (c .before .before .before .if1 .taken)) (c .add-bytes .ensures)
+    at-start _ _ _ _ _ (compiled-long (c .before .before .before .before .before .before .args .bytes .now) (text-length .result) (t .0) (t .1)
+    (c .before .before .before .if1 .taken)) (c .add-bytes .ensures)
 
 slice-aggregate-put-answer : tie.Need-slice-aggregate-put-answer
 slice-aggregate-put-answer c =
@@ -38,7 +39,8 @@ returns-2 : tie.Need-returns-2
 returns-2 c =
     let text-length = c .before .before .before .before .text-length in
     let t = text-length .ensures in
-    at-start _ _ _ _ _ (compiled-text (c .before .before .before .before .before .before .args .bytes .now) (text-length .result) (t .0) (t .1) (c .before .before .before .if1 .left)) (c .put-answer .ensures)
+    at-start _ _ _ _ _ (compiled-text (c .before .before .before .before .before .before .args .bytes .now) (text-length .result) (t .0) (t .1)
+    (c .before .before .before .if1 .left)) (c .put-answer .ensures)
 
 pub compile-spec : {M : Type 1} → statement M
 compile-spec =

@@ -39,7 +39,12 @@ same-length : tie.Need-same-length
 same-length c = search needs
 
 returns : tie.Need-returns
-returns c = added-as _ _ _ _ _ _ (answer-refused (c .before .before .before .before .before .before .before .before .before .before .before .before .before .before .before .before .args .text .now) _ _ (sym (ap countedOf (c .before .before .before .before .before .before .before .before .before .read .given .1)) ∙ c .before .before .before .before .before .before .before .before .before .before .before .before .read-text .ensures .0)) (filled-last (omega arith) (c .before .before .before .before .before .before .add-refused .ensures) (c .before .before .add-reason .ensures))
+returns c =
+    added-as _ _ _ _ _ _ (answer-refused
+    (c .before .before .before .before .before .before .before .before .before .before .before .before .before .before .before .before .args .text .now) _ _
+    (sym (ap countedOf
+    (c .before .before .before .before .before .before .before .before .before .read .given .1)) ∙ c .before .before .before .before .before .before .before .before .before .before .before .before .read-text .ensures .0))
+    (filled-last (omega arith) (c .before .before .before .before .before .before .add-refused .ensures) (c .before .before .add-reason .ensures))
 
 same-length-2 : tie.Need-same-length-2
 same-length-2 c = search needs
@@ -47,7 +52,10 @@ same-length-2 c = search needs
 returns-2 : tie.Need-returns-2
 returns-2 c =
     let read-text = c .before .before .before .before .before .before .before .before .before .read-text in
-    added-as _ _ _ _ _ _ (answer-nodes (c .before .before .before .before .before .before .before .before .before .before .before .before .before .args .text .now) _ (sym (ap countedOf (c .before .before .before .before .before .before .read2 .given .1)) ∙ read-text .ensures .0) _ _ (read-text .ensures .1 .0)) (c .before .before .add-nodes .ensures)
+    added-as _ _ _ _ _ _ (answer-nodes
+    (c .before .before .before .before .before .before .before .before .before .before .before .before .before .args .text .now) _ (sym (ap countedOf
+    (c .before .before .before .before .before .before .read2 .given .1)) ∙ read-text .ensures .0) _ _ (read-text .ensures .1 .0))
+    (c .before .before .add-nodes .ensures)
 
 pub put-answer-spec : {M : Type 1} → statement M
 put-answer-spec =

@@ -15,7 +15,12 @@ without-last-requires-2 c κs = search needs
 
 returns : tie.Need-returns
 unfolding textIn
-returns c = let a = c .before .without-last .ensures in let b = c .without-last2 .ensures in let i = a .0 in let j = b .0 in (omega arith, b .1 ∙ ap (withoutLast 13) (a .1 ∙ ap (withoutLast 10) (take-length (c .before .before .before .args .bytes .now))))
+returns c =
+    let a = c .before .without-last .ensures in
+    let b = c .without-last2 .ensures in
+    let i = a .0 in
+    let j = b .0 in
+    (omega arith, b .1 ∙ ap (withoutLast 13) (a .1 ∙ ap (withoutLast 10) (take-length (c .before .before .before .args .bytes .now))))
 
 pub text-length-spec : {M : Type 1} → statement M
 text-length-spec = tie.close (tie.spec without-last-requires without-last-requires-2 returns)

@@ -11,8 +11,11 @@ use Rattle.report.proofs.without_last.Tie as tie
 
 returns : tie.Need-returns
 returns c =
-    let s = c .before in
-    (omega arith, let z : s .args .n ≡ 0 = omega arith in subst (λ m. [] ≡ withoutLast (s .args .byte) (take m (s .args .bytes .now))) (sym z) (last-none (s .args .byte)))
+    let s = c .before in (
+      omega arith,
+      let z : s .args .n ≡ 0 = omega arith in subst (λ m. [] ≡ withoutLast (s .args .byte) (take m (s .args .bytes .now))) (sym z)
+          (last-none (s .args .byte)),
+    )
 
 sub-if2 : tie.Need-sub-if2
 sub-if2 c = search needs

@@ -27,7 +27,13 @@ mul-out-2 c = search needs
 slice-write-out : tie.Need-slice-write-out Inv-loop μ-loop
 slice-write-out c =
     let s = c .before .before .before in
-    omega (arith, copied-length _ _ _ _ _ (c .before .before .loop .inv) (omega (arith, s .pre .0, s .pre .2)) (s .pre .1), c .before .loop-test .taken, s .pre .1)
+    omega (
+      arith,
+      copied-length _ _ _ _ _ (c .before .before .loop .inv) (omega (arith, s .pre .0, s .pre .2))
+          (s .pre .1),
+      c .before .loop-test .taken,
+      s .pre .1,
+    )
 
 add-i : tie.Need-add-i Inv-loop μ-loop
 add-i c = search needs

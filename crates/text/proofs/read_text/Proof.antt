@@ -35,7 +35,12 @@ enum-told-2 : tie.Need-enum-told-2
 enum-told-2 c = search needs
 
 write-table-requires : tie.Need-write-table-requires
-write-table-requires c κs = (sym (c .before .before .before .before .before .before .ask-grammar .ensures) ∙ ap answerOf (c .before .before .before .before .enum-told .given .1), sym (c .before .before .before .ask-range .ensures) ∙ ap answerOf (c .before .enum-told2 .given .1))
+write-table-requires c κs = (
+  sym (c .before .before .before .before .before .before .ask-grammar .ensures) ∙ ap answerOf
+      (c .before .before .before .before .enum-told .given .1),
+  sym (c .before .before .before .ask-range .ensures) ∙ ap answerOf
+      (c .before .enum-told2 .given .1),
+)
 
 same-length : tie.Need-same-length
 same-length c = search needs

@@ -18,13 +18,18 @@ returns c =
 returns-2 : tie.Need-returns-2
 returns-2 c =
     let s = c .before .before .before .before .before .before in
-    reads-short (s .args .text .now) (s .args .out .now) (s .pre .0) (s .pre .1) _ _ (c .before .before .write-nodes .ensures) (c .before .if1 .left) (c .if2 .taken)
+    reads-short (s .args .text .now) (s .args .out .now) (s .pre .0) (s .pre .1) _ _ (c .before .before .write-nodes .ensures) (c .before .if1 .left)
+    (c .if2 .taken)
 
 copy-words-requires : tie.Need-copy-words-requires
 copy-words-requires c κs =
     let s = c .before .before .before .before .before .before .before .before in
-    let if1 = c .before .before .before .if1 in
-    (if1 .left, c .before .before .if2 .left, table-long (s .args .text .now) (s .args .out .now) (s .pre .0) (s .pre .1) _ _ (c .before .before .before .before .write-nodes .ensures) (if1 .left))
+    let if1 = c .before .before .before .if1 in (
+      if1 .left,
+      c .before .before .if2 .left,
+      table-long (s .args .text .now) (s .args .out .now) (s .pre .0) (s .pre .1) _ _
+          (c .before .before .before .before .write-nodes .ensures) (if1 .left),
+    )
 
 same-length : tie.Need-same-length
 same-length c = search needs
@@ -33,7 +38,9 @@ returns-3 : tie.Need-returns-3
 returns-3 c =
     let s = c .before .before .before .before .before .before .before .before .before .before .before in
     let write-nodes = c .before .before .before .before .before .before .before .write-nodes in
-    subst (λ o. Reads (s .args .text .now) (s .args .out .now) o (Count (write-nodes .result))) (sym (c .before .before .copy-words .ensures)) (reads-written (s .args .text .now) (s .args .out .now) (s .pre .0) (s .pre .1) _ _ (write-nodes .ensures) (c .before .before .before .before .before .before .if1 .left) (c .before .before .before .before .before .if2 .left))
+    subst (λ o. Reads (s .args .text .now) (s .args .out .now) o (Count (write-nodes .result))) (sym (c .before .before .copy-words .ensures))
+    (reads-written (s .args .text .now) (s .args .out .now) (s .pre .0) (s .pre .1) _ _ (write-nodes .ensures)
+    (c .before .before .before .before .before .before .if1 .left) (c .before .before .before .before .before .if2 .left))
 
 pub write-table-spec : {M : Type 1} → statement M
 write-table-spec =

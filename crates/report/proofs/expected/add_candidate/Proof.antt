@@ -175,7 +175,8 @@ returns : tie.Need-returns
 unfolding candidates
 returns c =
     let s = c .before .before .before .before .before .before .before .before .before in
-    item-at (s .args .text .now) (s .args .start) (s .args .typed) (s .args .k) 0 (c .before .before .before .before .before .before .match .keys1) (c .before .before .add-item .ensures)
+    item-at (s .args .text .now) (s .args .start) (s .args .typed) (s .args .k) 0 (c .before .before .before .before .before .before .match .keys1)
+    (c .before .before .add-item .ensures)
 
 same-length-2 : tie.Need-same-length-2
 same-length-2 c = search needs
@@ -184,7 +185,8 @@ returns-2 : tie.Need-returns-2
 unfolding candidates
 returns-2 c =
     let s = c .before .before .before .before .before .before .before .before .before in
-    item-at (s .args .text .now) (s .args .start) (s .args .typed) (s .args .k) 1 (c .before .before .before .before .before .before .match .keys2) (c .before .before .add-item2 .ensures)
+    item-at (s .args .text .now) (s .args .start) (s .args .typed) (s .args .k) 1 (c .before .before .before .before .before .before .match .keys2)
+    (c .before .before .add-item2 .ensures)
 
 same-length-3 : tie.Need-same-length-3
 same-length-3 c = search needs
@@ -193,7 +195,8 @@ returns-3 : tie.Need-returns-3
 unfolding candidates
 returns-3 c =
     let s = c .before .before .before .before .before .before .before .before .before in
-    item-at (s .args .text .now) (s .args .start) (s .args .typed) (s .args .k) 2 (c .before .before .before .before .before .before .match .keys3) (c .before .before .add-item3 .ensures)
+    item-at (s .args .text .now) (s .args .start) (s .args .typed) (s .args .k) 2 (c .before .before .before .before .before .before .match .keys3)
+    (c .before .before .add-item3 .ensures)
 
 same-length-4 : tie.Need-same-length-4
 same-length-4 c = search needs
@@ -202,7 +205,8 @@ returns-4 : tie.Need-returns-4
 unfolding candidates
 returns-4 c =
     let s = c .before .before .before .before .before .before .before .before .before in
-    item-at (s .args .text .now) (s .args .start) (s .args .typed) (s .args .k) 3 (c .before .before .before .before .before .before .match .keys4) (c .before .before .add-item4 .ensures)
+    item-at (s .args .text .now) (s .args .start) (s .args .typed) (s .args .k) 3 (c .before .before .before .before .before .before .match .keys4)
+    (c .before .before .add-item4 .ensures)
 
 same-length-5 : tie.Need-same-length-5
 same-length-5 c = search needs
@@ -211,7 +215,8 @@ returns-5 : tie.Need-returns-5
 unfolding candidates
 returns-5 c =
     let s = c .before .before .before .before .before .before .before .before .before in
-    item-at (s .args .text .now) (s .args .start) (s .args .typed) (s .args .k) 4 (c .before .before .before .before .before .before .match .keys5) (c .before .before .add-item5 .ensures)
+    item-at (s .args .text .now) (s .args .start) (s .args .typed) (s .args .k) 4 (c .before .before .before .before .before .before .match .keys5)
+    (c .before .before .add-item5 .ensures)
 
 same-length-6 : tie.Need-same-length-6
 same-length-6 c = search needs
@@ -220,7 +225,8 @@ returns-6 : tie.Need-returns-6
 unfolding candidates
 returns-6 c =
     let s = c .before .before .before .before .before .before .before .before .before in
-    item-at (s .args .text .now) (s .args .start) (s .args .typed) (s .args .k) 5 (c .before .before .before .before .before .before .match .keys6) (c .before .before .add-item6 .ensures)
+    item-at (s .args .text .now) (s .args .start) (s .args .typed) (s .args .k) 5 (c .before .before .before .before .before .before .match .keys6)
+    (c .before .before .add-item6 .ensures)
 
 same-length-7 : tie.Need-same-length-7
 same-length-7 c = search needs
@@ -229,7 +235,8 @@ returns-7 : tie.Need-returns-7
 unfolding candidates
 returns-7 c =
     let s = c .before .before .before .before .before .before .before .before .before in
-    item-at (s .args .text .now) (s .args .start) (s .args .typed) (s .args .k) 6 (c .before .before .before .before .before .before .match .keys7) (c .before .before .add-item7 .ensures)
+    item-at (s .args .text .now) (s .args .start) (s .args .typed) (s .args .k) 6 (c .before .before .before .before .before .before .match .keys7)
+    (c .before .before .add-item7 .ensures)
 
 same-length-8 : tie.Need-same-length-8
 same-length-8 c = search needs
@@ -238,7 +245,8 @@ returns-8 : tie.Need-returns-8
 unfolding candidates
 returns-8 c =
     let s = c .before .before .before .before .before .before .before .before .before in
-    item-at (s .args .text .now) (s .args .start) (s .args .typed) (s .args .k) 7 (c .before .before .before .before .before .before .match .keys8) (c .before .before .add-item8 .ensures)
+    item-at (s .args .text .now) (s .args .start) (s .args .typed) (s .args .k) 7 (c .before .before .before .before .before .before .match .keys8)
+    (c .before .before .add-item8 .ensures)
 
 same-length-9 : tie.Need-same-length-9
 same-length-9 c = search needs
@@ -247,7 +255,8 @@ returns-9 : tie.Need-returns-9
 unfolding candidates
 returns-9 c =
     let s = c .before .before .before .before .before .before .before .before .before in
-    item-at (s .args .text .now) (s .args .start) (s .args .typed) (s .args .k) 8 (c .before .before .before .before .before .before .match .keys9) (c .before .before .add-item9 .ensures)
+    item-at (s .args .text .now) (s .args .start) (s .args .typed) (s .args .k) 8 (c .before .before .before .before .before .before .match .keys9)
+    (c .before .before .add-item9 .ensures)
 
 same-length-10 : tie.Need-same-length-10
 same-length-10 c = search needs
@@ -256,7 +265,8 @@ returns-10 : tie.Need-returns-10
 unfolding candidates
 returns-10 c =
     let s = c .before .before .before .before .before .before .before .before .before in
-    item-at (s .args .text .now) (s .args .start) (s .args .typed) (s .args .k) 9 (c .before .before .before .before .before .before .match .keys10) (c .before .before .add-item10 .ensures)
+    item-at (s .args .text .now) (s .args .start) (s .args .typed) (s .args .k) 9 (c .before .before .before .before .before .before .match .keys10)
+    (c .before .before .add-item10 .ensures)
 
 same-length-11 : tie.Need-same-length-11
 same-length-11 c = search needs
@@ -265,7 +275,8 @@ returns-11 : tie.Need-returns-11
 unfolding candidates
 returns-11 c =
     let s = c .before .before .before .before .before .before .before .before .before in
-    item-at (s .args .text .now) (s .args .start) (s .args .typed) (s .args .k) 10 (c .before .before .before .before .before .before .match .keys11) (c .before .before .add-item11 .ensures)
+    item-at (s .args .text .now) (s .args .start) (s .args .typed) (s .args .k) 10 (c .before .before .before .before .before .before .match .keys11)
+    (c .before .before .add-item11 .ensures)
 
 same-length-12 : tie.Need-same-length-12
 same-length-12 c = search needs
@@ -274,7 +285,8 @@ returns-12 : tie.Need-returns-12
 unfolding candidates
 returns-12 c =
     let s = c .before .before .before .before .before .before .before .before .before in
-    item-at (s .args .text .now) (s .args .start) (s .args .typed) (s .args .k) 11 (c .before .before .before .before .before .before .match .keys12) (c .before .before .add-item12 .ensures)
+    item-at (s .args .text .now) (s .args .start) (s .args .typed) (s .args .k) 11 (c .before .before .before .before .before .before .match .keys12)
+    (c .before .before .add-item12 .ensures)
 
 same-length-13 : tie.Need-same-length-13
 same-length-13 c = search needs
@@ -283,7 +295,8 @@ returns-13 : tie.Need-returns-13
 unfolding candidates
 returns-13 c =
     let s = c .before .before .before .before .before .before .before .before .before in
-    item-at (s .args .text .now) (s .args .start) (s .args .typed) (s .args .k) 12 (c .before .before .before .before .before .before .match .keys13) (c .before .before .add-item13 .ensures)
+    item-at (s .args .text .now) (s .args .start) (s .args .typed) (s .args .k) 12 (c .before .before .before .before .before .before .match .keys13)
+    (c .before .before .add-item13 .ensures)
 
 same-length-14 : tie.Need-same-length-14
 same-length-14 c = search needs
@@ -292,7 +305,8 @@ returns-14 : tie.Need-returns-14
 unfolding candidates
 returns-14 c =
     let s = c .before .before .before .before .before .before .before .before .before in
-    item-at (s .args .text .now) (s .args .start) (s .args .typed) (s .args .k) 13 (c .before .before .before .before .before .before .match .keys14) (c .before .before .add-item14 .ensures)
+    item-at (s .args .text .now) (s .args .start) (s .args .typed) (s .args .k) 13 (c .before .before .before .before .before .before .match .keys14)
+    (c .before .before .add-item14 .ensures)
 
 same-length-15 : tie.Need-same-length-15
 same-length-15 c = search needs
@@ -301,7 +315,8 @@ returns-15 : tie.Need-returns-15
 unfolding candidates
 returns-15 c =
     let s = c .before .before .before .before .before .before .before .before .before in
-    item-at (s .args .text .now) (s .args .start) (s .args .typed) (s .args .k) 14 (c .before .before .before .before .before .before .match .keys15) (c .before .before .add-item15 .ensures)
+    item-at (s .args .text .now) (s .args .start) (s .args .typed) (s .args .k) 14 (c .before .before .before .before .before .before .match .keys15)
+    (c .before .before .add-item15 .ensures)
 
 same-length-16 : tie.Need-same-length-16
 same-length-16 c = search needs
@@ -310,7 +325,8 @@ returns-16 : tie.Need-returns-16
 unfolding candidates
 returns-16 c =
     let s = c .before .before .before .before .before .before .before .before .before in
-    item-at (s .args .text .now) (s .args .start) (s .args .typed) (s .args .k) 15 (c .before .before .before .before .before .before .match .keys16) (c .before .before .add-item16 .ensures)
+    item-at (s .args .text .now) (s .args .start) (s .args .typed) (s .args .k) 15 (c .before .before .before .before .before .before .match .keys16)
+    (c .before .before .add-item16 .ensures)
 
 same-length-17 : tie.Need-same-length-17
 same-length-17 c = search needs
@@ -319,7 +335,8 @@ returns-17 : tie.Need-returns-17
 unfolding candidates
 returns-17 c =
     let s = c .before .before .before .before .before .before .before .before .before in
-    item-at (s .args .text .now) (s .args .start) (s .args .typed) (s .args .k) 16 (c .before .before .before .before .before .before .match .keys17) (c .before .before .add-item17 .ensures)
+    item-at (s .args .text .now) (s .args .start) (s .args .typed) (s .args .k) 16 (c .before .before .before .before .before .before .match .keys17)
+    (c .before .before .add-item17 .ensures)
 
 same-length-18 : tie.Need-same-length-18
 same-length-18 c = search needs

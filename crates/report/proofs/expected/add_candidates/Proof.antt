@@ -20,8 +20,14 @@ abbrev μ-loop : tie.MeasureT-loop
 
 loop-holds : tie.Need-loop-holds Inv-loop μ-loop
 loop-holds c =
-    let s = c .before .before in
-    (search needs, search needs, search needs, search needs, items-start (s .args .text .now) (s .args .start) (s .args .typed) (s .args .at) (s .args .out .now))
+    let s = c .before .before in (
+      search needs,
+      search needs,
+      search needs,
+      search needs,
+      items-start (s .args .text .now) (s .args .start) (s .args .typed) (s .args .at)
+          (s .args .out .now),
+    )
 
 add-candidate-requires : tie.Need-add-candidate-requires Inv-loop μ-loop
 add-candidate-requires c κs = let n = candidate-count in (search needs, omega arith, filled-room 9 (omega arith) (c .before .before .loop .inv .4))
@@ -36,8 +42,15 @@ loop-again : tie.Need-loop-again Inv-loop μ-loop
 loop-again c =
     let s = c .before .before .before .before .before .before .before .before in
     let l = c .before .before .before .before .before .loop in
-    let add-candidate = c .before .before .add-candidate in
-    (search needs, search needs, search needs, add-candidate .kept .1 .1 .1 .1 .1 .0 ∙ l .inv .3, items-next (s .args .text .now) (s .args .start) (s .args .typed) (s .args .at) (s .args .out .now) (l .k) (l .end) (add-candidate .result) (l .out) (add-candidate .last .1 .1 .1 .1 .1 .0) (omega arith) (l .inv .4) (add-candidate .ensures))
+    let add-candidate = c .before .before .add-candidate in (
+      search needs,
+      search needs,
+      search needs,
+      add-candidate .kept .1 .1 .1 .1 .1 .0 ∙ l .inv .3,
+      items-next (s .args .text .now) (s .args .start)
+          (s .args .typed) (s .args .at) (s .args .out .now) (l .k) (l .end) (add-candidate .result) (l .out) (add-candidate .last .1 .1 .1 .1 .1 .0)
+          (omega arith) (l .inv .4) (add-candidate .ensures),
+    )
 
 same-length : tie.Need-same-length Inv-loop μ-loop
 same-length c = search needs
@@ -45,7 +58,8 @@ same-length c = search needs
 returns : tie.Need-returns Inv-loop μ-loop
 returns c =
     let s = c .before .before .before .before in
-    items-end (s .args .text .now) (s .args .start) (s .args .typed) (s .args .at) (s .args .out .now) (c .before .loop .k) (c .before .loop .end) (c .before .loop .out) (omega arith) (c .before .loop .inv .4)
+    items-end (s .args .text .now) (s .args .start) (s .args .typed) (s .args .at) (s .args .out .now) (c .before .loop .k) (c .before .loop .end)
+    (c .before .loop .out) (omega arith) (c .before .loop .inv .4)
 
 pub add-candidates-spec : {M : Type 1} → statement M
 add-candidates-spec =

@@ -26,7 +26,12 @@ same-length c = search needs
 
 returns : tie.Need-returns
 unfolding expectedText
-returns c = let room = c .before .before .before .before .before .before .before .before .before .before .before .before .before .before .before .before .pre .1 in filled-then room (filled-then (omega arith) (filled-as 9 (omega arith) (c .before .before .before .before .before .before .before .before .before .before .before .add-bytes .ensures)) (c .before .before .before .before .before .before .before .add-items .ensures)) (filled-as 1 (omega arith) (c .before .before .add-bytes2 .ensures))
+returns c =
+    let room = c .before .before .before .before .before .before .before .before .before .before .before .before .before .before .before .before .pre .1 in
+    filled-then room (filled-then (omega arith) (filled-as 9 (omega arith)
+    (c .before .before .before .before .before .before .before .before .before .before .before .add-bytes .ensures))
+    (c .before .before .before .before .before .before .before .add-items .ensures)) (filled-as 1 (omega arith)
+    (c .before .before .add-bytes2 .ensures))
 
 pub add-expected-spec : {M : Type 1} → statement M
 add-expected-spec =

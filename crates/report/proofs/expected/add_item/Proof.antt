@@ -25,7 +25,10 @@ same-length c = search needs
 returns : tie.Need-returns
 returns c =
     let s = c .before .before .before .before .before .before .before .before .before .before .before .before .before .before .before in
-    item-stands _ (s .args .shown .now) (sym (c .before .before .before .before .before .before .before .before .before .before .is-begun .ensures) ∙ c .before .before .before .before .before .before .before .before .before .if1 .taken) (filled-then (omega arith) (filled-as 1 (omega arith) (c .before .before .before .before .before .before .add-bytes .ensures)) (filled-as 8 (s .pre .2) (c .before .before .add-bytes2 .ensures)))
+    item-stands _ (s .args .shown .now) (sym
+    (c .before .before .before .before .before .before .before .before .before .before .is-begun .ensures) ∙ c .before .before .before .before .before .before .before .before .before .if1 .taken)
+    (filled-then (omega arith) (filled-as 1 (omega arith) (c .before .before .before .before .before .before .add-bytes .ensures)) (filled-as 8
+    (s .pre .2) (c .before .before .add-bytes2 .ensures)))
 
 returns-2 : tie.Need-returns-2
 returns-2 c =

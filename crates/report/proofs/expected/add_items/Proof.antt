@@ -23,7 +23,9 @@ returns : tie.Need-returns
 returns c =
     let s = c .before .before .before .before .before .before .before .before .before .before .before .before in
     let letters-before = c .before .before .before .before .before .before .before .before .before .letters-before in
-    expected-none (s .args .text .now) (s .args .place) (letters-before .result) (letters-before .ensures .1) (s .args .at) _ _ _ (c .before .before .before .before .before .before .before .add-candidates .ensures) _ _ (c .before .before .before .before .if1 .taken) (s .pre .1) (c .before .before .add-candidates2 .ensures)
+    expected-none (s .args .text .now) (s .args .place) (letters-before .result) (letters-before .ensures .1) (s .args .at) _ _ _
+    (c .before .before .before .before .before .before .before .add-candidates .ensures) _ _ (c .before .before .before .before .if1 .taken)
+    (s .pre .1) (c .before .before .add-candidates2 .ensures)
 
 same-length-2 : tie.Need-same-length-2
 same-length-2 c = search needs
@@ -32,7 +34,8 @@ returns-2 : tie.Need-returns-2
 returns-2 c =
     let s = c .before .before .before .before .before .before .before .before in
     let letters-before = c .before .before .before .before .before .letters-before in
-    expected-some (s .args .text .now) (s .args .place) (letters-before .result) (letters-before .ensures .1) (s .args .at) _ _ _ (c .before .before .before .add-candidates .ensures) (c .if1 .left)
+    expected-some (s .args .text .now) (s .args .place) (letters-before .result) (letters-before .ensures .1) (s .args .at) _ _ _
+    (c .before .before .before .add-candidates .ensures) (c .if1 .left)
 
 pub add-items-spec : {M : Type 1} → statement M
 add-items-spec =

@@ -21,7 +21,9 @@ matching-requires c κs = search needs
 returns-2 : tie.Need-returns-2
 returns-2 c =
     let agreed = ap (agreeing (c .before .before .before .before .before .before .args .bytes .now)) (sym (before-drop (c .before .before .before .before .before .before .args .text .now) (c .before .before .before .before .before .before .args .start) (c .before .before .least .result) (c .before .before .least .ensures))) ∙ sym (c .before .matching .ensures) in
-    begun-other (c .before .before .before .before .before .before .args .text .now) (c .before .before .before .before .before .before .args .start) (c .before .before .before .before .before .before .args .typed) (c .before .before .before .before .before .before .args .bytes .now) (c .before .before .before .if1 .left) (λ z. c .if2 .taken (sym agreed ∙ z))
+    begun-other (c .before .before .before .before .before .before .args .text .now) (c .before .before .before .before .before .before .args .start)
+    (c .before .before .before .before .before .before .args .typed) (c .before .before .before .before .before .before .args .bytes .now)
+    (c .before .before .before .if1 .left) (λ z. c .if2 .taken (sym agreed ∙ z))
 
 may-stand-requires : tie.Need-may-stand-requires
 may-stand-requires c κs = search needs
@@ -29,7 +31,10 @@ may-stand-requires c κs = search needs
 returns-3 : tie.Need-returns-3
 returns-3 c =
     let agreed = ap (agreeing (c .before .before .before .before .before .before .before .args .bytes .now)) (sym (before-drop (c .before .before .before .before .before .before .before .args .text .now) (c .before .before .before .before .before .before .before .args .start) (c .before .before .before .least .result) (c .before .before .before .least .ensures))) ∙ sym (c .before .before .matching .ensures) in
-    begun-is (c .before .before .before .before .before .before .before .args .text .now) (c .before .before .before .before .before .before .before .args .start) (c .before .before .before .before .before .before .before .args .typed) (c .before .before .before .before .before .before .before .args .bytes .now) (c .before .before .before .before .if1 .left) (agreed ∙ c .before .if2 .left) (c .may-stand .result) (c .may-stand .ensures)
+    begun-is (c .before .before .before .before .before .before .before .args .text .now)
+    (c .before .before .before .before .before .before .before .args .start) (c .before .before .before .before .before .before .before .args .typed)
+    (c .before .before .before .before .before .before .before .args .bytes .now) (c .before .before .before .before .if1 .left)
+    (agreed ∙ c .before .if2 .left) (c .may-stand .result) (c .may-stand .ensures)
 
 pub is-begun-spec : {M : Type 1} → statement M
 is-begun-spec =

@@ -38,8 +38,11 @@ is-letter-requires c κs = search needs
 returns-2 : tie.Need-returns-2 Inv-loop μ-loop
 returns-2 c =
     let s = c .before .before .before .before .before .before .before in
-    let l = c .before .before .before .before .before .loop in
-    (l .inv .0, letters-stop (s .args .text .now) (s .args .place) (l .n) (c .before .before .before .before .loop-test .taken) (l .inv .1) (sym (c .before .is-letter .ensures) ∙ not-true (c .before .is-letter .result) (c .if2 .taken)))
+    let l = c .before .before .before .before .before .loop in (
+      l .inv .0,
+      letters-stop (s .args .text .now) (s .args .place) (l .n) (c .before .before .before .before .loop-test .taken) (l .inv .1) (sym
+          (c .before .is-letter .ensures) ∙ not-true (c .before .is-letter .result) (c .if2 .taken)),
+    )
 
 add-n : tie.Need-add-n Inv-loop μ-loop
 add-n c = search needs
@@ -50,13 +53,19 @@ loop-less c = search needs
 loop-again : tie.Need-loop-again Inv-loop μ-loop
 loop-again c =
     let s = c .before .before .before .before .before .before .before in
-    let l = c .before .before .before .before .before .loop in
-    (search needs, letters-next (s .args .text .now) (s .args .place) (l .n) (c .before .before .before .before .loop-test .taken) (l .inv .1) (sym (c .before .is-letter .ensures) ∙ not-false (c .before .is-letter .result) (c .if2 .left)))
+    let l = c .before .before .before .before .before .loop in (
+      search needs,
+      letters-next (s .args .text .now) (s .args .place) (l .n) (c .before .before .before .before .loop-test .taken) (l .inv .1) (sym
+          (c .before .is-letter .ensures) ∙ not-false (c .before .is-letter .result) (c .if2 .left)),
+    )
 
 returns-3 : tie.Need-returns-3 Inv-loop μ-loop
 returns-3 c =
-    let s = c .before .before .before in
-    (c .before .loop .inv .0, letters-end (s .args .text .now) (s .args .place) (c .before .loop .n) (c .before .loop .inv .0) (c .loop-test .left) (c .before .loop .inv .1))
+    let s = c .before .before .before in (
+      c .before .loop .inv .0,
+      letters-end (s .args .text .now) (s .args .place) (c .before .loop .n) (c .before .loop .inv .0) (c .loop-test .left)
+          (c .before .loop .inv .1),
+    )
 
 pub letters-before-spec : {M : Type 1} → statement M
 letters-before-spec =

@@ -24,19 +24,23 @@ add-bytes-requires-2 : tie.Need-add-bytes-requires-2
 add-bytes-requires-2 c κs =
     let s = c .before .before .before .before .before .before .before .before .before .before in
     let least = c .before .before .before .before .before .before .least in
-    next-room (s .args .text .now) (s .args .place) (least .result) (least .ensures) (s .args .bytes .now) _ (s .args .tried .now) _ (s .pre .0) (s .pre .1) (s .pre .2) (c .before .before .before .add-bytes .ensures)
+    next-room (s .args .text .now) (s .args .place) (least .result) (least .ensures) (s .args .bytes .now) _ (s .args .tried .now) _ (s .pre .0)
+    (s .pre .1) (s .pre .2) (c .before .before .before .add-bytes .ensures)
 
 slice-reshare-prefix-ask-grammar : tie.Need-slice-reshare-prefix-ask-grammar
 slice-reshare-prefix-ask-grammar c =
     let s = c .before .before .before .before .before .before .before .before .before .before .before .before .before in
     let least = c .before .before .before .before .before .before .before .before .before .least in
-    tried-inside (s .args .text .now) (s .args .place) (least .result) (least .ensures) (s .args .bytes .now) _ (s .args .tried .now) _ (s .pre .0) (s .pre .1) (s .pre .2) (c .before .before .before .before .before .before .add-bytes .ensures) _ _ (c .before .before .add-bytes2 .ensures)
+    tried-inside (s .args .text .now) (s .args .place) (least .result) (least .ensures) (s .args .bytes .now) _ (s .args .tried .now) _ (s .pre .0)
+    (s .pre .1) (s .pre .2) (c .before .before .before .before .before .before .add-bytes .ensures) _ _ (c .before .before .add-bytes2 .ensures)
 
 slice-aggregate-ask-grammar : tie.Need-slice-aggregate-ask-grammar
 slice-aggregate-ask-grammar c =
     let s = c .before .before .before .before .before .before .before .before .before .before .before .before .before .before in
     let least = c .before .before .before .before .before .before .before .before .before .before .least in
-    tried-length (s .args .text .now) (s .args .place) (least .result) (least .ensures) (s .args .bytes .now) _ (s .args .tried .now) _ (s .pre .0) (s .pre .1) (s .pre .2) (c .before .before .before .before .before .before .before .add-bytes .ensures) _ _ (c .before .before .before .add-bytes2 .ensures)
+    tried-length (s .args .text .now) (s .args .place) (least .result) (least .ensures) (s .args .bytes .now) _ (s .args .tried .now) _ (s .pre .0)
+    (s .pre .1) (s .pre .2) (c .before .before .before .before .before .before .before .add-bytes .ensures) _ _
+    (c .before .before .before .add-bytes2 .ensures)
 
 ask-grammar-requires : tie.Need-ask-grammar-requires
 ask-grammar-requires c κs = search needs
@@ -54,7 +58,10 @@ returns : tie.Need-returns
 returns c =
     let s = c .before .before .before .before .before .before .before .before .before .before .before .before .before .before .before .before .before in
     let least = c .before .before .before .before .before .before .before .before .before .before .before .before .before .least in
-    stands-passed (s .args .text .now) (s .args .place) (least .result) (least .ensures) (s .args .bytes .now) _ (s .args .tried .now) _ (s .pre .0) (s .pre .1) (s .pre .2) (c .before .before .before .before .before .before .before .before .before .before .add-bytes .ensures) _ _ (c .before .before .before .before .before .before .add-bytes2 .ensures) (sym (ap answerOf (c .enum-told .given .1)) ∙ c .before .before .ask-grammar .ensures)
+    stands-passed (s .args .text .now) (s .args .place) (least .result) (least .ensures) (s .args .bytes .now) _ (s .args .tried .now) _ (s .pre .0)
+    (s .pre .1) (s .pre .2) (c .before .before .before .before .before .before .before .before .before .before .add-bytes .ensures) _ _
+    (c .before .before .before .before .before .before .add-bytes2 .ensures) (sym (ap answerOf
+    (c .enum-told .given .1)) ∙ c .before .before .ask-grammar .ensures)
 
 same-length-2 : tie.Need-same-length-2
 same-length-2 c = search needs
@@ -63,7 +70,10 @@ returns-2 : tie.Need-returns-2
 returns-2 c =
     let s = c .before .before .before .before .before .before .before .before .before .before .before .before .before .before .before .before .before .before in
     let least = c .before .before .before .before .before .before .before .before .before .before .before .before .before .before .least in
-    stands-refused (s .args .text .now) (s .args .place) (least .result) (least .ensures) (s .args .bytes .now) _ (s .args .tried .now) _ (s .pre .0) (s .pre .1) (s .pre .2) (c .before .before .before .before .before .before .before .before .before .before .before .add-bytes .ensures) _ _ (c .before .before .before .before .before .before .before .add-bytes2 .ensures) _ _ (sym (ap answerOf (c .before .asked .given .1)) ∙ c .before .before .before .ask-grammar .ensures)
+    stands-refused (s .args .text .now) (s .args .place) (least .result) (least .ensures) (s .args .bytes .now) _ (s .args .tried .now) _ (s .pre .0)
+    (s .pre .1) (s .pre .2) (c .before .before .before .before .before .before .before .before .before .before .before .add-bytes .ensures) _ _
+    (c .before .before .before .before .before .before .before .add-bytes2 .ensures) _ _ (sym (ap answerOf
+    (c .before .asked .given .1)) ∙ c .before .before .before .ask-grammar .ensures)
 
 pub stands-spec : {M : Type 1} → statement M
 stands-spec =

@@ -16,7 +16,9 @@ same-length c = search needs
 
 returns : tie.Need-returns
 unfolding markText
-returns c = filled-then (c .before .before .before .before .before .before .before .before .before .before .pre) (c .before .before .before .before .before .before .add-text .ensures) (c .before .before .add-pointer .ensures)
+returns c =
+    filled-then (c .before .before .before .before .before .before .before .before .before .before .pre)
+    (c .before .before .before .before .before .before .add-text .ensures) (c .before .before .add-pointer .ensures)
 
 pub add-mark-spec : {M : Type 1} → statement M
 add-mark-spec = tie.close (tie.spec add-text-requires add-pointer-requires same-length returns)

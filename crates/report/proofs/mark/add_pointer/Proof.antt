@@ -37,7 +37,8 @@ add-bytes-requires-2 c κs =
     let shown-from = c .before .before .before .before .before .before .before .shown-from in
     let e = shown-from .ensures in
     let room = s .pre in
-    filled-room 2 (omega arith) (filled-as 60 (let l = indent-length (s .args .place) (shown-from .result) e in omega arith) (c .before .before .before .before .add-bytes .ensures))
+    filled-room 2 (omega arith) (filled-as 60 (let l = indent-length (s .args .place) (shown-from .result) e in omega arith)
+    (c .before .before .before .before .add-bytes .ensures))
 
 same-length : tie.Need-same-length
 same-length c = search needs
@@ -48,7 +49,9 @@ returns c =
     let shown-from = c .before .before .before .before .before .before .before .before .before .before .shown-from in
     let e = shown-from .ensures in
     let room = s .pre in
-    filled-is (indent-text (s .args .place) (shown-from .result) e) (filled-then (omega arith) (filled-as 60 (let l = indent-length (s .args .place) (shown-from .result) e in omega arith) (c .before .before .before .before .before .before .before .add-bytes .ensures)) (filled-as 2 (omega arith) (c .before .before .add-bytes2 .ensures)))
+    filled-is (indent-text (s .args .place) (shown-from .result) e) (filled-then (omega arith) (filled-as 60 (let l = indent-length (s .args .place)
+    (shown-from .result) e in omega arith) (c .before .before .before .before .before .before .before .add-bytes .ensures)) (filled-as 2 (omega arith)
+    (c .before .before .add-bytes2 .ensures)))
 
 pub add-pointer-spec : {M : Type 1} → statement M
 add-pointer-spec =

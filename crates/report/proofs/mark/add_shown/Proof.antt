@@ -18,8 +18,14 @@ abbrev μ-loop : tie.MeasureT-loop
 
 loop-holds : tie.Need-loop-holds Inv-loop μ-loop
 loop-holds c =
-    let s = c .before .before in
-    (s .pre .0, s .pre .1, search needs, search needs, shown-start (s .args .text .now) (s .args .from) (s .args .n) (s .pre .0) (s .args .at) (s .args .out .now) (s .pre .1))
+    let s = c .before .before in (
+      s .pre .0,
+      s .pre .1,
+      search needs,
+      search needs,
+      shown-start (s .args .text .now) (s .args .from) (s .args .n) (s .pre .0) (s .args .at)
+          (s .args .out .now) (s .pre .1),
+    )
 
 add-show : tie.Need-add-show Inv-loop μ-loop
 add-show c = search needs
@@ -46,8 +52,14 @@ loop-again : tie.Need-loop-again Inv-loop μ-loop
 loop-again c =
     let s = c .before .before .before .before .before .before in
     let l = c .before .before .before .loop in
-    let i = l .inv in
-    (search needs, search needs, search needs, search needs, shown-next (s .args .text .now) (s .args .from) (s .args .n) (i .0) (s .args .at) (s .args .out .now) (i .1) (l .i) (c .show .result) (l .out) (c .before .before .loop-test .taken) (c .show .ensures) (i .4))
+    let i = l .inv in (
+      search needs,
+      search needs,
+      search needs,
+      search needs,
+      shown-next (s .args .text .now) (s .args .from) (s .args .n) (i .0) (s .args .at)
+          (s .args .out .now) (i .1) (l .i) (c .show .result) (l .out) (c .before .before .loop-test .taken) (c .show .ensures) (i .4),
+    )
 
 add-result : tie.Need-add-result Inv-loop μ-loop
 add-result c = search needs
@@ -59,7 +71,8 @@ returns : tie.Need-returns Inv-loop μ-loop
 returns c =
     let s = c .before .before .before .before in
     let i = c .before .loop .inv in
-    shown-end (s .args .text .now) (s .args .from) (s .args .n) (i .0) (s .args .at) (s .args .out .now) (i .1) (c .before .loop .i) (c .before .loop .out) (c .loop-test .left) (i .4)
+    shown-end (s .args .text .now) (s .args .from) (s .args .n) (i .0) (s .args .at) (s .args .out .now) (i .1) (c .before .loop .i)
+    (c .before .loop .out) (c .loop-test .left) (i .4)
 
 pub add-shown-spec : {M : Type 1} → statement M
 add-shown-spec =

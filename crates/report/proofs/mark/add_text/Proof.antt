@@ -13,7 +13,11 @@ shown-count-requires : tie.Need-shown-count-requires
 shown-count-requires c κs = search needs
 
 add-shown-requires : tie.Need-add-shown-requires
-add-shown-requires c κs = let k = c .before .shown-count .ensures in let l = k .0 in let room = c .before .before .before .before .before .pre in (k .1, omega arith)
+add-shown-requires c κs =
+    let k = c .before .shown-count .ensures in
+    let l = k .0 in
+    let room = c .before .before .before .before .before .pre in
+    (k .1, omega arith)
 
 slice-aggregate-add-bytes : tie.Need-slice-aggregate-add-bytes
 slice-aggregate-add-bytes c = search needs
@@ -24,7 +28,9 @@ add-bytes-requires c κs =
     let shown-count = c .before .before .before .before .before .before .shown-count in
     let room = s .pre in
     let k = shown-count .ensures in
-    filled-room 1 (omega arith) (filled-as 72 (let s = shown-few (s .args .text .now) (c .before .before .before .before .before .before .before .shown-from .result) (shown-count .result) in let l = k .0 in omega arith) (c .before .before .before .before .add-shown .ensures))
+    filled-room 1 (omega arith) (filled-as 72 (let s = shown-few (s .args .text .now)
+    (c .before .before .before .before .before .before .before .shown-from .result) (shown-count .result) in let l = k .0 in omega arith)
+    (c .before .before .before .before .add-shown .ensures))
 
 same-length : tie.Need-same-length
 same-length c = search needs
@@ -36,7 +42,10 @@ returns c =
     let shown-count = c .before .before .before .before .before .before .before .before .before .shown-count in
     let room = s .pre in
     let k = shown-count .ensures in
-    filled-is (shown-all (s .args .text .now) (s .args .place) (shown-from .result) (shown-count .result) (shown-from .ensures) (k .0) (k .2)) (filled-then (omega arith) (filled-as 72 (let s = shown-few (s .args .text .now) (shown-from .result) (shown-count .result) in let l = k .0 in omega arith) (c .before .before .before .before .before .before .before .add-shown .ensures)) (filled-as 1 (omega arith) (c .before .before .add-bytes .ensures)))
+    filled-is (shown-all (s .args .text .now) (s .args .place) (shown-from .result) (shown-count .result) (shown-from .ensures) (k .0) (k .2))
+    (filled-then (omega arith) (filled-as 72 (let s = shown-few (s .args .text .now) (shown-from .result)
+    (shown-count .result) in let l = k .0 in omega arith) (c .before .before .before .before .before .before .before .add-shown .ensures))
+    (filled-as 1 (omega arith) (c .before .before .add-bytes .ensures)))
 
 pub add-text-spec : {M : Type 1} → statement M
 add-text-spec =

@@ -22,7 +22,9 @@ in-range-requires : tie.Need-in-range-requires Inv-loop μ-loop
 in-range-requires c κs = (c .loop-test .taken, c .before .loop .inv .last)
 
 returns : tie.Need-returns Inv-loop μ-loop
-returns c = ranging-stop _ _ _ (c .before .before .before .loop .inv) (c .before .before .loop-test .taken) (sym (c .before .in-range .ensures) ∙ not-true (c .before .in-range .result) (c .if1 .taken))
+returns c =
+    ranging-stop _ _ _ (c .before .before .before .loop .inv) (c .before .before .loop-test .taken) (sym (c .before .in-range .ensures) ∙ not-true
+    (c .before .in-range .result) (c .if1 .taken))
 
 shared-slice-read-before : tie.Need-shared-slice-read-before Inv-loop μ-loop
 shared-slice-read-before c = search needs
@@ -36,7 +38,8 @@ loop-less c = search needs
 loop-again : tie.Need-loop-again Inv-loop μ-loop
 loop-again c =
     let in-range = c .before .before .in-range in
-    ranging-next _ _ _ (c .before .before .before .before .loop .inv) (c .before .before .before .loop-test .taken) (sym (in-range .ensures) ∙ not-false (in-range .result) (c .before .if1 .left))
+    ranging-next _ _ _ (c .before .before .before .before .loop .inv) (c .before .before .before .loop-test .taken) (sym
+    (in-range .ensures) ∙ not-false (in-range .result) (c .before .if1 .left))
 
 returns-2 : tie.Need-returns-2 Inv-loop μ-loop
 returns-2 c = ranging-end _ _ _ (c .before .loop .inv) (c .loop-test .left)

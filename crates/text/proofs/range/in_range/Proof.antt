@@ -38,7 +38,9 @@ returns-3 : tie.Need-returns-3
 returns-3 c =
     let s = c .before .before .before .before .before .before .before .before .before in
     let is-digit = c .before .before .before .before .before .before .is-digit in
-    ap₂ leb (c .before .before .digits-at .ensures .0) (c .before .most-after .ensures ∙ ap mostAfter (s .pre .1)) ∙ in-range-start (s .args .text .now) (s .args .at) (sym (is-digit .ensures) ∙ not-false (is-digit .result) (c .before .before .before .before .before .if1 .left)) (sym (c .before .before .before .before .is-digit2 .ensures ∙ ap isDigit (s .pre .1)) ∙ c .before .before .before .if2 .left)
+    ap₂ leb (c .before .before .digits-at .ensures .0) (c .before .most-after .ensures ∙ ap mostAfter (s .pre .1)) ∙ in-range-start
+    (s .args .text .now) (s .args .at) (sym (is-digit .ensures) ∙ not-false (is-digit .result) (c .before .before .before .before .before .if1 .left))
+    (sym (c .before .before .before .before .is-digit2 .ensures ∙ ap isDigit (s .pre .1)) ∙ c .before .before .before .if2 .left)
 
 pub in-range-spec : {M : Type 1} → statement M
 in-range-spec =

@@ -108,12 +108,14 @@ returns-6 c =
 returns-7 : tie.Need-returns-7
 returns-7 c =
     let s = c .before .before .before in
-    c .wanting7 .ensures ∙ ap (λ n. between false (at operand n)) (add-one (s .args .s .depth)) ∙ ap (scanAfter (s .args .s .want) (s .args .s .depth)) (sym (c .before .enum-told7 .given .1))
+    c .wanting7 .ensures ∙ ap (λ n. between false (at operand n)) (add-one (s .args .s .depth)) ∙ ap (scanAfter (s .args .s .want)
+    (s .args .s .depth)) (sym (c .before .enum-told7 .given .1))
 
 returns-8 : tie.Need-returns-8
 returns-8 c =
     let s = c .before .before .before .before in
-    c .wanting8 .ensures ∙ ap (λ n. between false (at operator n)) (c .before .less-one .ensures) ∙ ap (scanAfter (s .args .s .want) (s .args .s .depth)) (sym (c .before .before .enum-told8 .given .1))
+    c .wanting8 .ensures ∙ ap (λ n. between false (at operator n)) (c .before .less-one .ensures) ∙ ap (scanAfter (s .args .s .want)
+    (s .args .s .depth)) (sym (c .before .before .enum-told8 .given .1))
 
 returns-9 : tie.Need-returns-9
 returns-9 c =

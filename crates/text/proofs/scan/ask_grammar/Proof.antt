@@ -41,7 +41,9 @@ loop-less c =
 loop-again : tie.Need-loop-again Inv-loop μ-loop
 loop-again c =
     let l = c .before .before .before .before .before .before .loop in
-    turning-next _ _ _ (l .inv) (c .after-token .result) _ _ (subst (Reads (c .before .before .before .before .before .before .before .before .before .args .text .now) (l .at) (l .s .want) (l .s .depth) (l .s .touching)) (c .before .before .read .given .1) (c .before .before .before .before .read-token .ensures)) (c .after-token .ensures)
+    turning-next _ _ _ (l .inv) (c .after-token .result) _ _ (subst (Reads
+    (c .before .before .before .before .before .before .before .before .before .args .text .now) (l .at) (l .s .want) (l .s .depth) (l .s .touching))
+    (c .before .before .read .given .1) (c .before .before .before .before .read-token .ensures)) (c .after-token .ensures)
 
 enum-known-read-2 : tie.Need-enum-known-read-2 Inv-loop μ-loop
 enum-known-read-2 c = search needs
@@ -49,7 +51,8 @@ enum-known-read-2 c = search needs
 returns : tie.Need-returns Inv-loop μ-loop
 returns c =
     let l = c .before .before .before .before .before .loop in
-    turning-stuck _ _ _ (l .inv) _ (subst (Reads (c .before .before .before .before .before .before .before .before .args .text .now) (l .at) (l .s .want) (l .s .depth) (l .s .touching)) (c .before .read2 .given .1) (c .before .before .before .read-token .ensures))
+    turning-stuck _ _ _ (l .inv) _ (subst (Reads (c .before .before .before .before .before .before .before .before .args .text .now) (l .at)
+    (l .s .want) (l .s .depth) (l .s .touching)) (c .before .read2 .given .1) (c .before .before .before .read-token .ensures))
 
 may-end-requires : tie.Need-may-end-requires Inv-loop μ-loop
 may-end-requires c κs = search needs

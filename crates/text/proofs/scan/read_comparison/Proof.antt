@@ -23,19 +23,24 @@ returns : tie.Need-returns
 returns c =
     let s = c .before .before .before .before in
     let known = s .args in
-    subst (Reads (known .text .now) (known .at) want.Comparison (known .depth) (known .touching)) (sym (c .one-byte .ensures)) (sign-over (known .text .now) (known .at) (s .pre .0) (known .touching) (at comparison (known .depth)) (at constantNumber (known .depth)) equalSign token.Equal (c .before .match .keys1) refl refl)
+    subst (Reads (known .text .now) (known .at) want.Comparison (known .depth) (known .touching)) (sym (c .one-byte .ensures)) (sign-over
+    (known .text .now) (known .at) (s .pre .0) (known .touching) (at comparison (known .depth)) (at constantNumber
+    (known .depth)) equalSign token.Equal (c .before .match .keys1) refl refl)
 
 returns-2 : tie.Need-returns-2
 returns-2 c =
     let s = c .before .before .before .before in
     let known = s .args in
-    subst (Reads (known .text .now) (known .at) want.Comparison (known .depth) (known .touching)) (sym (c .one-byte2 .ensures)) (sign-over (known .text .now) (known .at) (s .pre .0) (known .touching) (at comparison (known .depth)) (at constantNumber (known .depth)) belowSign token.Below (c .before .match .keys2) refl refl)
+    subst (Reads (known .text .now) (known .at) want.Comparison (known .depth) (known .touching)) (sym (c .one-byte2 .ensures)) (sign-over
+    (known .text .now) (known .at) (s .pre .0) (known .touching) (at comparison (known .depth)) (at constantNumber
+    (known .depth)) belowSign token.Below (c .before .match .keys2) refl refl)
 
 returns-3 : tie.Need-returns-3
 returns-3 c =
     let s = c .before .before .before in
     let known = s .args in
-    stuck-here (known .text .now) (known .at) (s .pre .0) (known .touching) (at comparison (known .depth)) (comparison-none (known .touching) (known .depth) _ (s .pre .1) (c .match .rest .0 .1) (c .match .rest .1))
+    stuck-here (known .text .now) (known .at) (s .pre .0) (known .touching) (at comparison (known .depth)) (comparison-none (known .touching)
+    (known .depth) _ (s .pre .1) (c .match .rest .0 .1) (c .match .rest .1))
 
 pub read-comparison-spec : {M : Type 1} → statement M
 read-comparison-spec =

@@ -71,7 +71,9 @@ returns : tie.Need-returns
 returns c =
     let s = c .before .before .before .before in
     let known = s .args in
-    subst (Reads (known .text .now) (known .at) want.Operand (known .depth) (known .touching)) (sym (c .one-byte .ensures)) (sign-over (known .text .now) (known .at) (s .pre .0) (known .touching) (at operand (known .depth)) (at operand (suc (known .depth))) openSign token.Open (c .before .match .keys1) refl refl)
+    subst (Reads (known .text .now) (known .at) want.Operand (known .depth) (known .touching)) (sym (c .one-byte .ensures)) (sign-over
+    (known .text .now) (known .at) (s .pre .0) (known .touching) (at operand (known .depth)) (at operand (suc (known .depth))) openSign token.Open
+    (c .before .match .keys1) refl refl)
 
 returns-2 : tie.Need-returns-2
 returns-2 c = search needs
@@ -80,50 +82,68 @@ returns-3 : tie.Need-returns-3
 returns-3 c =
     let s = c .before .before .before .before .before in
     let known = s .args in
-    word-reads (known .text .now) (known .at) (s .pre .0) (constantWord true) want.Operand (known .depth) (token.Constant true) (at operator (known .depth)) (c .before .before .match .keys3) refl refl refl (known .touching) (c .read-constant .result) (c .read-constant .ensures)
+    word-reads (known .text .now) (known .at) (s .pre .0) (constantWord true) want.Operand (known .depth) (token.Constant true) (at operator
+    (known .depth)) (c .before .before .match .keys3) refl refl refl (known .touching) (c .read-constant .result) (c .read-constant .ensures)
 
 returns-4 : tie.Need-returns-4
 returns-4 c =
     let s = c .before .before .before .before .before in
     let known = s .args in
-    word-reads (known .text .now) (known .at) (s .pre .0) (constantWord false) want.Operand (known .depth) (token.Constant false) (at operator (known .depth)) (c .before .before .match .keys4) refl refl refl (known .touching) (c .read-constant2 .result) (c .read-constant2 .ensures)
+    word-reads (known .text .now) (known .at) (s .pre .0) (constantWord false) want.Operand (known .depth) (token.Constant false) (at operator
+    (known .depth)) (c .before .before .match .keys4) refl refl refl (known .touching) (c .read-constant2 .result) (c .read-constant2 .ensures)
 
 returns-5 : tie.Need-returns-5
 returns-5 c =
     let s = c .before .before .before .before .before in
     let known = s .args in
-    word-reads (known .text .now) (known .at) (s .pre .0) (prefixWord not) want.Operand (known .depth) (token.Prefix prefix.Not) (at operand (known .depth)) (c .before .before .match .keys5) refl refl refl (known .touching) (c .read-prefix .result) (c .read-prefix .ensures)
+    word-reads (known .text .now) (known .at) (s .pre .0) (prefixWord not) want.Operand (known .depth) (token.Prefix prefix.Not) (at operand
+    (known .depth)) (c .before .before .match .keys5) refl refl refl (known .touching) (c .read-prefix .result) (c .read-prefix .ensures)
 
 returns-6 : tie.Need-returns-6
 returns-6 c =
     let s = c .before .before .before .before .before in
     let known = s .args in
-    word-reads (known .text .now) (known .at) (s .pre .0) (prefixWord wprev) want.Operand (known .depth) (token.Prefix prefix.Wprev) (at operand (known .depth)) (c .before .before .match .keys6) refl refl refl (known .touching) (c .read-prefix2 .result) (c .read-prefix2 .ensures)
+    word-reads (known .text .now) (known .at) (s .pre .0) (prefixWord wprev) want.Operand (known .depth) (token.Prefix prefix.Wprev) (at operand
+    (known .depth)) (c .before .before .match .keys6) refl refl refl (known .touching) (c .read-prefix2 .result) (c .read-prefix2 .ensures)
 
 returns-7 : tie.Need-returns-7
 returns-7 c =
     let s = c .before .before .before .before .before in
     let known = s .args in
-    word-reads (known .text .now) (known .at) (s .pre .0) (prefixWord prev) want.Operand (known .depth) (token.Prefix prefix.Prev) (at operand (known .depth)) (c .before .before .match .keys7) refl refl refl (known .touching) (c .read-prefix3 .result) (c .read-prefix3 .ensures)
+    word-reads (known .text .now) (known .at) (s .pre .0) (prefixWord prev) want.Operand (known .depth) (token.Prefix prefix.Prev) (at operand
+    (known .depth)) (c .before .before .match .keys7) refl refl refl (known .touching) (c .read-prefix3 .result) (c .read-prefix3 .ensures)
 
 returns-8 : tie.Need-returns-8
 returns-8 c =
     let s = c .before .before .before .before .before in
     let known = s .args in
-    word-reads (known .text .now) (known .at) (s .pre .0) (prefixWord once) want.Operand (known .depth) (token.Prefix prefix.Once) (at operand (known .depth)) (c .before .before .match .keys8) refl refl refl (known .touching) (c .read-prefix4 .result) (c .read-prefix4 .ensures)
+    word-reads (known .text .now) (known .at) (s .pre .0) (prefixWord once) want.Operand (known .depth) (token.Prefix prefix.Once) (at operand
+    (known .depth)) (c .before .before .match .keys8) refl refl refl (known .touching) (c .read-prefix4 .result) (c .read-prefix4 .ensures)
 
 returns-9 : tie.Need-returns-9
 returns-9 c =
     let s = c .before .before .before .before .before in
     let known = s .args in
-    word-reads (known .text .now) (known .at) (s .pre .0) (prefixWord sofar) want.Operand (known .depth) (token.Prefix prefix.Sofar) (at operand (known .depth)) (c .before .before .match .keys9) refl refl refl (known .touching) (c .read-prefix5 .result) (c .read-prefix5 .ensures)
+    word-reads (known .text .now) (known .at) (s .pre .0) (prefixWord sofar) want.Operand (known .depth) (token.Prefix prefix.Sofar) (at operand
+    (known .depth)) (c .before .before .match .keys9) refl refl refl (known .touching) (c .read-prefix5 .result) (c .read-prefix5 .ensures)
 
 returns-10 : tie.Need-returns-10
 returns-10 c =
     let s = c .before .before .before in
     let known = s .args in
     let b = getD (known .text .now) (known .at) 0 in
-    stuck-here (known .text .now) (known .at) (s .pre .0) (known .touching) (at operand (known .depth)) (operand-none (known .touching) (known .depth) b (s .pre .1) (c .match .rest .0 .0 .0 .0 .0 .0 .0 .0 .1) (c .match .rest .0 .0 .0 .0 .0 .0 .0 .1) (starts-none (wordsFor operand) b (c .match .rest .0 .0 .0 .0 .0 .0 .1, (c .match .rest .0 .0 .0 .0 .0 .1, (c .match .rest .0 .0 .0 .0 .1, (c .match .rest .0 .0 .0 .1, (c .match .rest .0 .0 .1, (c .match .rest .0 .1, (c .match .rest .1, tt)))))))))
+    stuck-here (known .text .now) (known .at) (s .pre .0) (known .touching) (at operand (known .depth)) (operand-none (known .touching)
+    (known .depth) b (s .pre .1) (c .match .rest .0 .0 .0 .0 .0 .0 .0 .0 .1) (c .match .rest .0 .0 .0 .0 .0 .0 .0 .1) (starts-none
+    (wordsFor operand) b (
+      c .match .rest .0 .0 .0 .0 .0 .0 .1,
+      (
+        c .match .rest .0 .0 .0 .0 .0 .1,
+        (
+          c .match .rest .0 .0 .0 .0 .1,
+          (c .match .rest .0 .0 .0 .1, (c .match .rest .0 .0 .1, (c .match .rest .0 .1, (c .match .rest .1, tt)))),
+        ),
+      ),
+    )))
 
 pub read-operand-spec : {M : Type 1} → statement M
 read-operand-spec =

@@ -49,38 +49,47 @@ returns : tie.Need-returns
 returns c =
     let s = c .before .before .before .before in
     let known = s .args in
-    subst (Reads (known .text .now) (known .at) want.Operator (known .depth) (known .touching)) (sym (c .read-close .ensures)) (close-reads (known .text .now) (known .at) (s .pre .0) (known .touching) (known .depth) (c .before .match .keys1))
+    subst (Reads (known .text .now) (known .at) want.Operator (known .depth) (known .touching)) (sym (c .read-close .ensures)) (close-reads
+    (known .text .now) (known .at) (s .pre .0) (known .touching) (known .depth) (c .before .match .keys1))
 
 returns-2 : tie.Need-returns-2
 returns-2 c =
     let s = c .before .before .before .before .before in
     let known = s .args in
-    word-reads (known .text .now) (known .at) (s .pre .0) (operatorWord sinceWord) want.Operator (known .depth) (token.Operator operator.Since) (at operand (known .depth)) (c .before .before .match .keys2) refl refl refl (known .touching) (c .read-infix .result) (c .read-infix .ensures)
+    word-reads (known .text .now) (known .at) (s .pre .0) (operatorWord sinceWord) want.Operator (known .depth) (token.Operator operator.Since)
+    (at operand (known .depth)) (c .before .before .match .keys2) refl refl refl (known .touching) (c .read-infix .result) (c .read-infix .ensures)
 
 returns-3 : tie.Need-returns-3
 returns-3 c =
     let s = c .before .before .before .before .before in
     let known = s .args in
-    word-reads (known .text .now) (known .at) (s .pre .0) (operatorWord andWord) want.Operator (known .depth) (token.Operator operator.And) (at operand (known .depth)) (c .before .before .match .keys3) refl refl refl (known .touching) (c .read-infix2 .result) (c .read-infix2 .ensures)
+    word-reads (known .text .now) (known .at) (s .pre .0) (operatorWord andWord) want.Operator (known .depth) (token.Operator operator.And)
+    (at operand (known .depth)) (c .before .before .match .keys3) refl refl refl (known .touching) (c .read-infix2 .result) (c .read-infix2 .ensures)
 
 returns-4 : tie.Need-returns-4
 returns-4 c =
     let s = c .before .before .before .before .before in
     let known = s .args in
-    word-reads (known .text .now) (known .at) (s .pre .0) (operatorWord orWord) want.Operator (known .depth) (token.Operator operator.Or) (at operand (known .depth)) (c .before .before .match .keys4) refl refl refl (known .touching) (c .read-infix3 .result) (c .read-infix3 .ensures)
+    word-reads (known .text .now) (known .at) (s .pre .0) (operatorWord orWord) want.Operator (known .depth) (token.Operator operator.Or) (at operand
+    (known .depth)) (c .before .before .match .keys4) refl refl refl (known .touching) (c .read-infix3 .result) (c .read-infix3 .ensures)
 
 returns-5 : tie.Need-returns-5
 returns-5 c =
     let s = c .before .before .before .before .before in
     let known = s .args in
-    word-reads (known .text .now) (known .at) (s .pre .0) (operatorWord impliesWord) want.Operator (known .depth) (token.Operator operator.Implies) (at operand (known .depth)) (c .before .before .match .keys5) refl refl refl (known .touching) (c .read-infix4 .result) (c .read-infix4 .ensures)
+    word-reads (known .text .now) (known .at) (s .pre .0) (operatorWord impliesWord) want.Operator (known .depth) (token.Operator operator.Implies)
+    (at operand (known .depth)) (c .before .before .match .keys5) refl refl refl (known .touching) (c .read-infix4 .result) (c .read-infix4 .ensures)
 
 returns-6 : tie.Need-returns-6
 returns-6 c =
     let s = c .before .before .before in
     let known = s .args in
     let b = getD (known .text .now) (known .at) 0 in
-    stuck-here (known .text .now) (known .at) (s .pre .0) (known .touching) (at spec.operator (known .depth)) (operator-none (known .touching) (known .depth) b (s .pre .1) (c .match .rest .0 .0 .0 .0 .1) (starts-none (wordsFor spec.operator) b (c .match .rest .0 .0 .0 .1, (c .match .rest .0 .0 .1, (c .match .rest .0 .1, (c .match .rest .1, tt))))))
+    stuck-here (known .text .now) (known .at) (s .pre .0) (known .touching) (at spec.operator (known .depth)) (operator-none (known .touching)
+    (known .depth) b (s .pre .1) (c .match .rest .0 .0 .0 .0 .1) (starts-none (wordsFor spec.operator) b (
+      c .match .rest .0 .0 .0 .1,
+      (c .match .rest .0 .0 .1, (c .match .rest .0 .1, (c .match .rest .1, tt))),
+    )))
 
 pub read-operator-spec : {M : Type 1} → statement M
 read-operator-spec =

@@ -17,7 +17,8 @@ returns : tie.Need-returns
 returns c =
     let s = c .before .before .before .before in
     let known = s .args in
-    subst (Reads (known .text .now) (known .at) (known .s .want) (known .s .depth) (known .s .touching)) (sym (c .one-byte .ensures)) (space-over (known .text .now) (known .at) (s .pre) (known .s .touching) (at (wantOf (known .s .want)) (known .s .depth)) (c .before .if1 .taken))
+    subst (Reads (known .text .now) (known .at) (known .s .want) (known .s .depth) (known .s .touching)) (sym (c .one-byte .ensures)) (space-over
+    (known .text .now) (known .at) (s .pre) (known .s .touching) (at (wantOf (known .s .want)) (known .s .depth)) (c .before .if1 .taken))
 
 enum-told : tie.Need-enum-told
 enum-told c = search needs
@@ -44,16 +45,28 @@ read-operator-requires : tie.Need-read-operator-requires
 read-operator-requires c κs = search needs
 
 returns-2 : tie.Need-returns-2
-returns-2 c = let known = c .before .before .before .before .before .before .args in subst (λ w. Reads (known .text .now) (known .at) w (known .s .depth) (known .s .touching) (c .read-operand .result)) (sym (c .before .enum-told .given .1)) (c .read-operand .ensures)
+returns-2 c =
+    let known = c .before .before .before .before .before .before .args in
+    subst (λ w. Reads (known .text .now) (known .at) w (known .s .depth) (known .s .touching) (c .read-operand .result)) (sym
+    (c .before .enum-told .given .1)) (c .read-operand .ensures)
 
 returns-3 : tie.Need-returns-3
-returns-3 c = let known = c .before .before .before .before .before .before .args in subst (λ w. Reads (known .text .now) (known .at) w (known .s .depth) (known .s .touching) (c .read-comparison .result)) (sym (c .before .enum-told2 .given .1)) (c .read-comparison .ensures)
+returns-3 c =
+    let known = c .before .before .before .before .before .before .args in
+    subst (λ w. Reads (known .text .now) (known .at) w (known .s .depth) (known .s .touching) (c .read-comparison .result)) (sym
+    (c .before .enum-told2 .given .1)) (c .read-comparison .ensures)
 
 returns-4 : tie.Need-returns-4
-returns-4 c = let known = c .before .before .before .before .before .before .args in subst (λ w. Reads (known .text .now) (known .at) w (known .s .depth) (known .s .touching) (c .read-number .result)) (sym (c .before .enum-told3 .given .1)) (c .read-number .ensures)
+returns-4 c =
+    let known = c .before .before .before .before .before .before .args in
+    subst (λ w. Reads (known .text .now) (known .at) w (known .s .depth) (known .s .touching) (c .read-number .result)) (sym
+    (c .before .enum-told3 .given .1)) (c .read-number .ensures)
 
 returns-5 : tie.Need-returns-5
-returns-5 c = let known = c .before .before .before .before .before .before .args in subst (λ w. Reads (known .text .now) (known .at) w (known .s .depth) (known .s .touching) (c .read-operator .result)) (sym (c .before .enum-told4 .given .1)) (c .read-operator .ensures)
+returns-5 c =
+    let known = c .before .before .before .before .before .before .args in
+    subst (λ w. Reads (known .text .now) (known .at) w (known .s .depth) (known .s .touching) (c .read-operator .result)) (sym
+    (c .before .enum-told4 .given .1)) (c .read-operator .ensures)
 
 pub read-token-spec : {M : Type 1} → statement M
 read-token-spec =

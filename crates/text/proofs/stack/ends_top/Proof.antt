@@ -45,7 +45,8 @@ level-of-requires c κs = search needs
 returns-4 : tie.Need-returns-4
 returns-4 c =
     let s = c .before .before .before .before .before .before in
-    top-level (s .args .stack .now) (s .args .top) (s .args .depth) (s .args .level) (c .before .before .before .before .before .if1 .left) (s .pre .1) (omega (arith, c .before .before .before .if2 .left, c .before .before .if3 .left)) (c .level-of .result) (c .level-of .ensures)
+    top-level (s .args .stack .now) (s .args .top) (s .args .depth) (s .args .level) (c .before .before .before .before .before .if1 .left)
+    (s .pre .1) (omega (arith, c .before .before .before .if2 .left, c .before .before .if3 .left)) (c .level-of .result) (c .level-of .ensures)
 
 pub ends-top-spec : {M : Type 1} → statement M
 ends-top-spec =

@@ -41,7 +41,15 @@ add-result : tie.Need-add-result
 add-result c = search needs
 
 returns : tie.Need-returns
-returns c = let st = c .args .stack .now in let n = c .args .top in (refl, pushed-length st n (c .args .word) (c .args .left) (c .args .depth) ∙ c .pre .1, ap (stackOf (set (set (set st (3 * n) (c .args .word)) (3 * n + 1) (c .args .left)) (3 * n + 2) (c .args .depth))) (add-one n) ∙ stack-pushed st n (c .args .word) (c .args .left) (c .args .depth) (omega (arith, c .pre .0, c .pre .1)))
+returns c =
+    let st = c .args .stack .now in
+    let n = c .args .top in (
+      refl,
+      pushed-length st n (c .args .word) (c .args .left) (c .args .depth) ∙ c .pre .1,
+      ap (stackOf (set (set (set st (3 * n) (c .args .word))
+          (3 * n + 1) (c .args .left)) (3 * n + 2) (c .args .depth))) (add-one n) ∙ stack-pushed st n (c .args .word) (c .args .left) (c .args .depth)
+          (omega (arith, c .pre .0, c .pre .1)),
+    )
 
 pub push-spec : {M : Type 1} → statement M
 push-spec =

@@ -31,43 +31,85 @@ mul-base c =
 mul-put-end : tie.Need-mul-put-end Inv-loop μ-loop
 mul-put-end c =
     let l = c .before .before .before .loop in
-    omega (arith, unwinding-some _ _ _ _ _ _ _ _ (l .inv) (sym (c .before .before .ends-top .ensures) ∙ c .before .if1 .taken), few-waiting _ _ _ _ (l .inv .fits))
+    omega (
+      arith,
+      unwinding-some _ _ _ _ _ _ _ _ (l .inv) (sym (c .before .before .ends-top .ensures) ∙ c .before .if1 .taken),
+      few-waiting _ _ _ _
+          (l .inv .fits),
+    )
 
 element-copy-out-put-end : tie.Need-element-copy-out-put-end Inv-loop μ-loop
 element-copy-out-put-end c =
     let l = c .before .before .before .loop in
-    omega (arith, unwinding-some _ _ _ _ _ _ _ _ (l .inv) (sym (c .before .before .ends-top .ensures) ∙ c .before .if1 .taken), few-waiting _ _ _ _ (l .inv .fits))
+    omega (
+      arith,
+      unwinding-some _ _ _ _ _ _ _ _ (l .inv) (sym (c .before .before .ends-top .ensures) ∙ c .before .if1 .taken),
+      few-waiting _ _ _ _
+          (l .inv .fits),
+    )
 
 add-put-end : tie.Need-add-put-end Inv-loop μ-loop
 add-put-end c =
     let l = c .before .before .before .before .loop in
-    omega (arith, unwinding-some _ _ _ _ _ _ _ _ (l .inv) (sym (c .before .before .before .ends-top .ensures) ∙ c .before .before .if1 .taken), few-waiting _ _ _ _ (l .inv .fits))
+    omega (
+      arith,
+      unwinding-some _ _ _ _ _ _ _ _ (l .inv) (sym
+          (c .before .before .before .ends-top .ensures) ∙ c .before .before .if1 .taken),
+      few-waiting _ _ _ _ (l .inv .fits),
+    )
 
 mul-put-end-2 : tie.Need-mul-put-end-2 Inv-loop μ-loop
 mul-put-end-2 c =
     let l = c .before .before .before .before .loop in
-    omega (arith, unwinding-some _ _ _ _ _ _ _ _ (l .inv) (sym (c .before .before .before .ends-top .ensures) ∙ c .before .before .if1 .taken), few-waiting _ _ _ _ (l .inv .fits))
+    omega (
+      arith,
+      unwinding-some _ _ _ _ _ _ _ _ (l .inv) (sym
+          (c .before .before .before .ends-top .ensures) ∙ c .before .before .if1 .taken),
+      few-waiting _ _ _ _ (l .inv .fits),
+    )
 
 element-copy-out-put-end-2 : tie.Need-element-copy-out-put-end-2 Inv-loop μ-loop
 element-copy-out-put-end-2 c =
     let l = c .before .before .before .before .loop in
-    omega (arith, unwinding-some _ _ _ _ _ _ _ _ (l .inv) (sym (c .before .before .before .ends-top .ensures) ∙ c .before .before .if1 .taken), few-waiting _ _ _ _ (l .inv .fits))
+    omega (
+      arith,
+      unwinding-some _ _ _ _ _ _ _ _ (l .inv) (sym
+          (c .before .before .before .ends-top .ensures) ∙ c .before .before .if1 .taken),
+      few-waiting _ _ _ _ (l .inv .fits),
+    )
 
 put-end-requires : tie.Need-put-end-requires Inv-loop μ-loop
-put-end-requires c κs = unwinding-room _ _ _ _ _ _ _ _ (c .before .before .before .before .before .loop .inv) (sym (c .before .before .before .before .ends-top .ensures) ∙ c .before .before .before .if1 .taken)
+put-end-requires c κs =
+    unwinding-room _ _ _ _ _ _ _ _ (c .before .before .before .before .before .loop .inv) (sym
+    (c .before .before .before .before .ends-top .ensures) ∙ c .before .before .before .if1 .taken)
 
 sub-t : tie.Need-sub-t Inv-loop μ-loop
 sub-t c =
     let l = c .before .before .before .before .before .before .loop in
-    omega (arith, unwinding-some _ _ _ _ _ _ _ _ (l .inv) (sym (c .before .before .before .before .before .ends-top .ensures) ∙ c .before .before .before .before .if1 .taken), few-waiting _ _ _ _ (l .inv .fits))
+    omega (
+      arith,
+      unwinding-some _ _ _ _ _ _ _ _ (l .inv) (sym
+          (c .before .before .before .before .before .ends-top .ensures) ∙ c .before .before .before .before .if1 .taken),
+      few-waiting _ _ _ _
+          (l .inv .fits),
+    )
 
 loop-less : tie.Need-loop-less Inv-loop μ-loop
 loop-less c =
     let l = c .before .before .before .before .before .before .loop in
-    omega (arith, unwinding-some _ _ _ _ _ _ _ _ (l .inv) (sym (c .before .before .before .before .before .ends-top .ensures) ∙ c .before .before .before .before .if1 .taken), few-waiting _ _ _ _ (l .inv .fits))
+    omega (
+      arith,
+      unwinding-some _ _ _ _ _ _ _ _ (l .inv) (sym
+          (c .before .before .before .before .before .ends-top .ensures) ∙ c .before .before .before .before .if1 .taken),
+      few-waiting _ _ _ _
+          (l .inv .fits),
+    )
 
 loop-again : tie.Need-loop-again Inv-loop μ-loop
-loop-again c = unwinding-next _ _ _ _ _ _ _ _ (c .before .before .before .before .before .before .loop .inv) (sym (c .before .before .before .before .before .ends-top .ensures) ∙ c .before .before .before .before .if1 .taken) (c .put-end .last .0) (c .put-end .result) (c .put-end .ensures)
+loop-again c =
+    unwinding-next _ _ _ _ _ _ _ _ (c .before .before .before .before .before .before .loop .inv) (sym
+    (c .before .before .before .before .before .ends-top .ensures) ∙ c .before .before .before .before .if1 .taken) (c .put-end .last .0)
+    (c .put-end .result) (c .put-end .ensures)
 
 returns : tie.Need-returns Inv-loop μ-loop
 returns c = unwinding-stop _ _ _ _ _ _ _ _ (c .before .before .loop .inv) (sym (c .before .ends-top .ensures) ∙ c .if1 .left)

@@ -28,7 +28,9 @@ put-not-requires-2 c κs =
     (omega (arith, j, k, s .pre .0), g .long)
 
 returns : tie.Need-returns
-returns c = holds-after (putNot form32) (holds-after (putImplies form32 (c .before .before .before .before .before .before .args .left)) (c .before .before .before .before .put-not .ensures) (c .before .before .put-implies .ensures)) (c .put-not2 .ensures)
+returns c =
+    holds-after (putNot form32) (holds-after (putImplies form32 (c .before .before .before .before .before .before .args .left))
+    (c .before .before .before .before .put-not .ensures) (c .before .before .put-implies .ensures)) (c .put-not2 .ensures)
 
 pub put-and-spec : {M : Type 1} → statement M
 put-and-spec =

@@ -23,13 +23,19 @@ above : (w : ℕ) → w ≢ 0 → w ≢ 1 → w ≢ 2 → w ≢ 3 → w ≢ 4 �
 above w a b c d e f g = above-six w (above-three w a b c d) e f g
 
 put-not-requires : tie.Need-put-not-requires
-put-not-requires c κs = let e = ap (λ w. finishCost (waitingOf w)) (c .before .match .keys1) in (omega (arith, e, c .before .before .pre .0), c .before .before .pre .1)
+put-not-requires c κs =
+    let e = ap (λ w. finishCost (waitingOf w)) (c .before .match .keys1) in
+    (omega (arith, e, c .before .before .pre .0), c .before .before .pre .1)
 
 put-weak-requires : tie.Need-put-weak-requires
-put-weak-requires c κs = let e = ap (λ w. finishCost (waitingOf w)) (c .before .match .keys2) in (omega (arith, e, c .before .before .pre .0), c .before .before .pre .1)
+put-weak-requires c κs =
+    let e = ap (λ w. finishCost (waitingOf w)) (c .before .match .keys2) in
+    (omega (arith, e, c .before .before .pre .0), c .before .before .pre .1)
 
 put-prev-requires : tie.Need-put-prev-requires
-put-prev-requires c κs = let e = ap (λ w. finishCost (waitingOf w)) (c .before .match .keys3) in (omega (arith, e, c .before .before .pre .0), c .before .before .pre .1)
+put-prev-requires c κs =
+    let e = ap (λ w. finishCost (waitingOf w)) (c .before .match .keys3) in
+    (omega (arith, e, c .before .before .pre .0), c .before .before .pre .1)
 
 put-since-requires : tie.Need-put-since-requires
 put-since-requires c κs =
@@ -64,43 +70,52 @@ put-implies-requires c κs =
 returns : tie.Need-returns
 returns c =
     let s = c .before .before .before in
-    holds-as (ap (λ w. finishes form32 (waitingOf w) (s .args .left) (take (s .args .n) (s .args .table .now))) (sym (c .before .before .match .keys1))) (c .put-not .ensures)
+    holds-as (ap (λ w. finishes form32 (waitingOf w) (s .args .left) (take (s .args .n) (s .args .table .now))) (sym
+    (c .before .before .match .keys1))) (c .put-not .ensures)
 
 returns-2 : tie.Need-returns-2
 returns-2 c =
     let s = c .before .before .before in
-    holds-as (ap (λ w. finishes form32 (waitingOf w) (s .args .left) (take (s .args .n) (s .args .table .now))) (sym (c .before .before .match .keys2))) (c .put-weak .ensures)
+    holds-as (ap (λ w. finishes form32 (waitingOf w) (s .args .left) (take (s .args .n) (s .args .table .now))) (sym
+    (c .before .before .match .keys2))) (c .put-weak .ensures)
 
 returns-3 : tie.Need-returns-3
 returns-3 c =
     let s = c .before .before .before in
-    holds-as (ap (λ w. finishes form32 (waitingOf w) (s .args .left) (take (s .args .n) (s .args .table .now))) (sym (c .before .before .match .keys3))) (c .put-prev .ensures)
+    holds-as (ap (λ w. finishes form32 (waitingOf w) (s .args .left) (take (s .args .n) (s .args .table .now))) (sym
+    (c .before .before .match .keys3))) (c .put-prev .ensures)
 
 returns-4 : tie.Need-returns-4
 returns-4 c =
     let s = c .before .before .before in
-    holds-as (ap (λ w. finishes form32 (waitingOf w) (s .args .left) (take (s .args .n) (s .args .table .now))) (sym (c .before .before .match .keys4))) (c .put-since .ensures)
+    holds-as (ap (λ w. finishes form32 (waitingOf w) (s .args .left) (take (s .args .n) (s .args .table .now))) (sym
+    (c .before .before .match .keys4))) (c .put-since .ensures)
 
 returns-5 : tie.Need-returns-5
 returns-5 c =
     let s = c .before .before .before in
-    holds-as (ap (λ w. finishes form32 (waitingOf w) (s .args .left) (take (s .args .n) (s .args .table .now))) (sym (c .before .before .match .keys5))) (c .put-sofar .ensures)
+    holds-as (ap (λ w. finishes form32 (waitingOf w) (s .args .left) (take (s .args .n) (s .args .table .now))) (sym
+    (c .before .before .match .keys5))) (c .put-sofar .ensures)
 
 returns-6 : tie.Need-returns-6
 returns-6 c =
     let s = c .before .before .before in
-    holds-as (ap (λ w. finishes form32 (waitingOf w) (s .args .left) (take (s .args .n) (s .args .table .now))) (sym (c .before .before .match .keys6))) (c .put-since2 .ensures)
+    holds-as (ap (λ w. finishes form32 (waitingOf w) (s .args .left) (take (s .args .n) (s .args .table .now))) (sym
+    (c .before .before .match .keys6))) (c .put-since2 .ensures)
 
 returns-7 : tie.Need-returns-7
 returns-7 c =
     let s = c .before .before .before in
-    holds-as (ap (λ w. finishes form32 (waitingOf w) (s .args .left) (take (s .args .n) (s .args .table .now))) (sym (c .before .before .match .keys7))) (c .put-and .ensures)
+    holds-as (ap (λ w. finishes form32 (waitingOf w) (s .args .left) (take (s .args .n) (s .args .table .now))) (sym
+    (c .before .before .match .keys7))) (c .put-and .ensures)
 
 returns-8 : tie.Need-returns-8
 returns-8 c =
     let s = c .before .before .before in
     let keys = c .before .before .match in
-    holds-as (ends-alike form32 (s .args .word) (s .args .left) (take (s .args .n) (s .args .table .now)) (above (s .args .word) (keys .rest .0 .0 .0 .0 .0 .0 .1) (keys .rest .0 .0 .0 .0 .0 .1) (keys .rest .0 .0 .0 .0 .1) (keys .rest .0 .0 .0 .1) (keys .rest .0 .0 .1) (keys .rest .0 .1) (keys .rest .1)) .1) (c .put-implies .ensures)
+    holds-as (ends-alike form32 (s .args .word) (s .args .left) (take (s .args .n) (s .args .table .now)) (above (s .args .word)
+    (keys .rest .0 .0 .0 .0 .0 .0 .1) (keys .rest .0 .0 .0 .0 .0 .1) (keys .rest .0 .0 .0 .0 .1) (keys .rest .0 .0 .0 .1) (keys .rest .0 .0 .1)
+    (keys .rest .0 .1) (keys .rest .1)) .1) (c .put-implies .ensures)
 
 pub put-end-spec : {M : Type 1} → statement M
 put-end-spec =

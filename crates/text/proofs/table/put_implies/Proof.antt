@@ -16,7 +16,8 @@ put-word-requires c κs = search needs
 returns : tie.Need-returns
 returns c =
     let s = c .before .before .before .before in
-    holds-implies (s .args .table .now) (c .put-word .last .0) (s .args .n) (c .put-word .result) _ (s .args .left) _ (s .pre .0) (s .pre .1) (c .before .before .less-one .ensures) (c .put-word .ensures) (c .before .node-word .ensures)
+    holds-implies (s .args .table .now) (c .put-word .last .0) (s .args .n) (c .put-word .result) _ (s .args .left) _ (s .pre .0) (s .pre .1)
+    (c .before .before .less-one .ensures) (c .put-word .ensures) (c .before .node-word .ensures)
 
 pub put-implies-spec : {M : Type 1} → statement M
 put-implies-spec =

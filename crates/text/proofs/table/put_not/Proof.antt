@@ -22,7 +22,8 @@ put-implies-requires c κs =
 returns : tie.Need-returns
 returns c =
     let s = c .before .before .before .before .before in
-    holds-not (s .args .table .now) _ _ (s .args .n) _ _ (c .before .less-one .result) (omega (arith, s .pre .0)) (s .pre .1) (c .before .less-one .ensures) (c .before .before .before .put-false .ensures) (c .put-implies .ensures)
+    holds-not (s .args .table .now) _ _ (s .args .n) _ _ (c .before .less-one .result) (omega (arith, s .pre .0)) (s .pre .1)
+    (c .before .less-one .ensures) (c .before .before .before .put-false .ensures) (c .put-implies .ensures)
 
 pub put-not-spec : {M : Type 1} → statement M
 put-not-spec =

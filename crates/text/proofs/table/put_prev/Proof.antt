@@ -28,7 +28,9 @@ put-not-requires-2 c κs =
     (omega (arith, j, k, s .pre .0), g .long)
 
 returns : tie.Need-returns
-returns c = holds-after (putNot form32) (holds-after (putWeak form32) (c .before .before .before .before .put-not .ensures) (c .before .before .put-weak .ensures)) (c .put-not2 .ensures)
+returns c =
+    holds-after (putNot form32) (holds-after (putWeak form32) (c .before .before .before .before .put-not .ensures)
+    (c .before .before .put-weak .ensures)) (c .put-not2 .ensures)
 
 pub put-prev-spec : {M : Type 1} → statement M
 put-prev-spec = tie.close (tie.spec put-not-requires put-weak-requires put-not-requires-2 returns)

@@ -34,12 +34,16 @@ put-word-requires-2 c κs = search needs
 returns : tie.Need-returns
 returns c =
     let s = c .before .before .before in
-    subst (λ b. Holds (c .put-word .last .0) (c .put-word .result) (put form32 (testNode (testOf (comparisonOf b) (s .args .register) (s .args .constant))) (take (s .args .n) (s .args .table .now)))) (sym (c .before .before .if1 .taken)) (holds-below (s .args .table .now) _ (s .args .n) _ _ (s .args .register) (s .args .constant) refl (c .put-word .ensures))
+    subst (λ b. Holds (c .put-word .last .0) (c .put-word .result) (put form32 (testNode (testOf (comparisonOf b) (s .args .register)
+    (s .args .constant))) (take (s .args .n) (s .args .table .now)))) (sym (c .before .before .if1 .taken)) (holds-below (s .args .table .now) _
+    (s .args .n) _ _ (s .args .register) (s .args .constant) refl (c .put-word .ensures))
 
 returns-2 : tie.Need-returns-2
 returns-2 c =
     let s = c .before .before .before in
-    subst (λ b. Holds (c .put-word2 .last .0) (c .put-word2 .result) (put form32 (testNode (testOf (comparisonOf b) (s .args .register) (s .args .constant))) (take (s .args .n) (s .args .table .now)))) (sym (c .before .before .if1 .left)) (holds-equal (s .args .table .now) _ (s .args .n) _ _ (s .args .register) (s .args .constant) refl (c .put-word2 .ensures))
+    subst (λ b. Holds (c .put-word2 .last .0) (c .put-word2 .result) (put form32 (testNode (testOf (comparisonOf b) (s .args .register)
+    (s .args .constant))) (take (s .args .n) (s .args .table .now)))) (sym (c .before .before .if1 .left)) (holds-equal (s .args .table .now) _
+    (s .args .n) _ _ (s .args .register) (s .args .constant) refl (c .put-word2 .ensures))
 
 pub put-test-spec : {M : Type 1} → statement M
 put-test-spec =

@@ -26,13 +26,21 @@ is-digit-requires : tie.Need-is-digit-requires Inv-loop μ-loop
 is-digit-requires c κs = search needs
 
 returns : tie.Need-returns Inv-loop μ-loop
-returns c = let x = passed-stop _ _ _ _ (c .before .before .before .before .loop .inv) (c .before .before .before .loop-test .taken) (sym (c .before .is-digit .ensures) ∙ not-true (c .before .is-digit .result) (c .if1 .taken)) in (x .value-is, x .next-is)
+returns c =
+    let x = passed-stop _ _ _ _ (c .before .before .before .before .loop .inv) (c .before .before .before .loop-test .taken) (sym (c .before .is-digit .ensures) ∙ not-true (c .before .is-digit .result) (c .if1 .taken)) in
+    (x .value-is, x .next-is)
 
 mul-cap : tie.Need-mul-cap Inv-loop μ-loop
 mul-cap c = omega (arith, cap-small (c .before .before .before .before .loop .inv .exact), c .before .before .before .before .loop .inv .value-is)
 
 cast-cap : tie.Need-cast-cap Inv-loop μ-loop
-cast-cap c = let d = sym (c .before .is-digit .ensures) ∙ not-false (c .before .is-digit .result) (c .if1 .left) in omega (arith, digit-high (getD (c .before .before .before .before .before .before .args .text .now) (c .before .before .before .before .loop .i) 0) d)
+cast-cap c =
+    let d = sym (c .before .is-digit .ensures) ∙ not-false (c .before .is-digit .result) (c .if1 .left) in
+    omega (
+      arith,
+      digit-high (getD (c .before .before .before .before .before .before .args .text .now)
+          (c .before .before .before .before .loop .i) 0) d,
+    )
 
 sub-cap : tie.Need-sub-cap Inv-loop μ-loop
 sub-cap c = let d = sym (c .before .is-digit .ensures) ∙ not-false (c .before .is-digit .result) (c .if1 .left) in digit-low _ d
@@ -41,7 +49,13 @@ add-cap : tie.Need-add-cap Inv-loop μ-loop
 add-cap c =
     let l = c .before .before .before .before .loop in
     let d = sym (c .before .is-digit .ensures) ∙ not-false (c .before .is-digit .result) (c .if1 .left) in
-    omega (arith, digit-high (getD (c .before .before .before .before .before .before .args .text .now) (l .i) 0) d, cap-small (l .inv .exact), l .inv .value-is)
+    omega (
+      arith,
+      digit-high (getD (c .before .before .before .before .before .before .args .text .now) (l .i) 0) d,
+      cap-small
+          (l .inv .exact),
+      l .inv .value-is,
+    )
 
 cap-requires : tie.Need-cap-requires Inv-loop μ-loop
 cap-requires c κs = search needs
@@ -57,7 +71,8 @@ loop-again c =
     let s = c .before .before .before .before .before .before .before in
     let l = c .before .before .before .before .before .loop in
     let is-digit = c .before .before .is-digit in
-    subst (λ v. Passed (s .args .text .now) (s .args .at) v (l .i + 1)) (sym (c .cap .ensures)) (passed-next _ _ _ _ (l .inv) (c .before .before .before .before .loop-test .taken) (sym (is-digit .ensures) ∙ not-false (is-digit .result) (c .before .if1 .left)))
+    subst (λ v. Passed (s .args .text .now) (s .args .at) v (l .i + 1)) (sym (c .cap .ensures)) (passed-next _ _ _ _ (l .inv)
+    (c .before .before .before .before .loop-test .taken) (sym (is-digit .ensures) ∙ not-false (is-digit .result) (c .before .if1 .left)))
 
 returns-2 : tie.Need-returns-2 Inv-loop μ-loop
 returns-2 c = let x = passed-end _ _ _ _ (c .before .loop .inv) (c .loop-test .left) in (x .value-is, x .next-is)

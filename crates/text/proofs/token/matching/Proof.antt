@@ -35,7 +35,8 @@ shared-slice-read-if2-2 c = search needs
 returns-2 : tie.Need-returns-2 Inv-loop μ-loop
 returns-2 c =
     let l = c .before .before .before .before .before .loop in
-    agreed-other _ _ _ _ (l .inv) (c .before .before .before .before .loop-test .taken) (omega (arith, c .before .before .before .if1 .left, l .inv .in-text)) (c .if2 .taken)
+    agreed-other _ _ _ _ (l .inv) (c .before .before .before .before .loop-test .taken) (omega
+    (arith, c .before .before .before .if1 .left, l .inv .in-text)) (c .if2 .taken)
 
 add-n : tie.Need-add-n Inv-loop μ-loop
 add-n c = search needs
@@ -46,7 +47,8 @@ loop-less c = search needs
 loop-again : tie.Need-loop-again Inv-loop μ-loop
 loop-again c =
     let l = c .before .before .before .before .before .loop in
-    agreed-next _ _ _ _ (l .inv) (c .before .before .before .before .loop-test .taken) (omega (arith, c .before .before .before .if1 .left, l .inv .in-text)) (c .if2 .left)
+    agreed-next _ _ _ _ (l .inv) (c .before .before .before .before .loop-test .taken) (omega
+    (arith, c .before .before .before .if1 .left, l .inv .in-text)) (c .if2 .left)
 
 returns-3 : tie.Need-returns-3 Inv-loop μ-loop
 returns-3 c = agreed-end _ _ _ _ (c .before .loop .inv) (c .loop-test .left)

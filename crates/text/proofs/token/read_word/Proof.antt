@@ -19,7 +19,13 @@ add-t10 c = search needs
 add-t11 : tie.Need-add-t11
 add-t11 c =
     let known = c .before .before .before .before .before .args in
-    omega (arith, c .before .matching .ensures, agreeing-within (known .letters .now) (drop (known .at) (known .text .now)), length-drop (known .at) (known .text .now))
+    omega (
+      arith,
+      c .before .matching .ensures,
+      agreeing-within (known .letters .now) (drop (known .at) (known .text .now)),
+      length-drop (known .at)
+          (known .text .now),
+    )
 
 returns-2 : tie.Need-returns-2
 returns-2 c = word-breaks _ _ _ _ _ _ (c .before .before .if1 .left) (c .before .matching .ensures) (c .if2 .taken)

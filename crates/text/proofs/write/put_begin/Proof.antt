@@ -11,13 +11,19 @@ use Rattle.text.proofs.write.put_begin.Statement.{statement}
 use Rattle.text.proofs.write.put_begin.Tie as tie
 
 put-true-requires : tie.Need-put-true-requires
-put-true-requires c κs = let e = ap (λ w. beginCost (waitingOf w)) (c .before .match .keys1) in (omega (arith, e, c .before .before .pre .0), c .before .before .pre .1)
+put-true-requires c κs =
+    let e = ap (λ w. beginCost (waitingOf w)) (c .before .match .keys1) in
+    (omega (arith, e, c .before .before .pre .0), c .before .before .pre .1)
 
 put-true-requires-2 : tie.Need-put-true-requires-2
-put-true-requires-2 c κs = let e = ap (λ w. beginCost (waitingOf w)) (c .before .match .keys2) in (omega (arith, e, c .before .before .pre .0), c .before .before .pre .1)
+put-true-requires-2 c κs =
+    let e = ap (λ w. beginCost (waitingOf w)) (c .before .match .keys2) in
+    (omega (arith, e, c .before .before .pre .0), c .before .before .pre .1)
 
 put-not-requires : tie.Need-put-not-requires
-put-not-requires c κs = let e = ap (λ w. beginCost (waitingOf w)) (c .before .match .keys3) in (omega (arith, e, c .before .before .pre .0), c .before .before .pre .1)
+put-not-requires c κs =
+    let e = ap (λ w. beginCost (waitingOf w)) (c .before .match .keys3) in
+    (omega (arith, e, c .before .before .pre .0), c .before .before .pre .1)
 
 returns : tie.Need-returns
 returns c =
@@ -38,7 +44,8 @@ returns-4 : tie.Need-returns-4
 returns-4 c =
     let s = c .before in
     let ws = take (s .args .n) (s .args .table .now) in
-    holds-as (begins-alike form32 (s .args .word) ws (c .match .rest .0 .0 .1) (c .match .rest .0 .1) (c .match .rest .1)) (holds-here (s .args .table .now) (s .args .n) (omega (arith, s .pre .0)) (s .pre .1))
+    holds-as (begins-alike form32 (s .args .word) ws (c .match .rest .0 .0 .1) (c .match .rest .0 .1) (c .match .rest .1)) (holds-here
+    (s .args .table .now) (s .args .n) (omega (arith, s .pre .0)) (s .pre .1))
 
 pub put-begin-spec : {M : Type 1} → statement M
 put-begin-spec =

@@ -23,7 +23,9 @@ prefix-number-requires : tie.Need-prefix-number-requires
 prefix-number-requires c κs = search needs
 
 wait-requires : tie.Need-wait-requires
-wait-requires c κs = prefix-room _ _ _ 0 _ (c .prefix-number .result) (c .prefix-number .ensures) (ready-as (c .before .before .before .before .token2 .given .1) (c .before .before .before .before .before .before .before .pre))
+wait-requires c κs =
+    prefix-room _ _ _ 0 _ (c .prefix-number .result) (c .prefix-number .ensures) (ready-as (c .before .before .before .before .token2 .given .1)
+    (c .before .before .before .before .before .before .before .pre))
 
 at-height-requires-2 : tie.Need-at-height-requires-2
 at-height-requires-2 c κs = search needs
@@ -38,7 +40,10 @@ operator-level-requires : tie.Need-operator-level-requires
 operator-level-requires c κs = search needs
 
 join-requires : tie.Need-join-requires
-join-requires c κs = operator-room _ _ _ 0 _ (c .before .operator-number .result) (c .operator-level .result) (c .before .operator-number .ensures) (c .operator-level .ensures) (ready-as (c .before .before .before .before .before .token3 .given .1) (c .before .before .before .before .before .before .before .before .pre))
+join-requires c κs =
+    operator-room _ _ _ 0 _ (c .before .operator-number .result) (c .operator-level .result) (c .before .operator-number .ensures)
+    (c .operator-level .ensures) (ready-as (c .before .before .before .before .before .token3 .given .1)
+    (c .before .before .before .before .before .before .before .before .pre))
 
 at-height-requires-3 : tie.Need-at-height-requires-3
 at-height-requires-3 c κs = search needs
@@ -80,26 +85,37 @@ returns : tie.Need-returns
 returns c = took (c .enum-told .given .1) (taken-space _ _ _ _ (c .before .before .before .pre .fits))
 
 returns-2 : tie.Need-returns-2
-returns-2 c = let told = c .before .before .before .before .token .given .1 in took told (with-pen (c .at-height .ensures) (taken-constant _ _ _ _ _ _ _ (ready-as told (c .before .before .before .before .before .before .before .pre)) (c .before .put-constant .ensures)))
+returns-2 c =
+    let told = c .before .before .before .before .token .given .1 in
+    took told (with-pen (c .at-height .ensures) (taken-constant _ _ _ _ _ _ _ (ready-as told
+    (c .before .before .before .before .before .before .before .pre)) (c .before .put-constant .ensures)))
 
 returns-3 : tie.Need-returns-3
 returns-3 c =
     let prefix-number = c .before .before .prefix-number in
     let told = c .before .before .before .before .before .before .token2 .given .1 in
-    took told (with-pen (c .at-height2 .ensures) (taken-prefix _ _ _ _ _ (prefix-number .result) (prefix-number .ensures) (ready-as told (c .before .before .before .before .before .before .before .before .before .pre)) _ _ _ _ (c .before .wait .ensures)))
+    took told (with-pen (c .at-height2 .ensures) (taken-prefix _ _ _ _ _ (prefix-number .result) (prefix-number .ensures) (ready-as told
+    (c .before .before .before .before .before .before .before .before .before .pre)) _ _ _ _ (c .before .wait .ensures)))
 
 returns-4 : tie.Need-returns-4
 returns-4 c =
     let operator-number = c .before .before .before .operator-number in
     let operator-level = c .before .before .operator-level in
     let told = c .before .before .before .before .before .before .before .token3 .given .1 in
-    took told (with-pen (c .at-height3 .ensures) (taken-operator _ _ _ _ _ (operator-number .result) (operator-level .result) (operator-number .ensures) (operator-level .ensures) (ready-as told (c .before .before .before .before .before .before .before .before .before .before .pre)) _ _ _ _ (c .before .join .ensures)))
+    took told (with-pen (c .at-height3 .ensures) (taken-operator _ _ _ _ _ (operator-number .result) (operator-level .result)
+    (operator-number .ensures) (operator-level .ensures) (ready-as told
+    (c .before .before .before .before .before .before .before .before .before .before .pre)) _ _ _ _ (c .before .join .ensures)))
 
 returns-5 : tie.Need-returns-5
-returns-5 c = took (c .before .before .token4 .given .1) (with-pen (c .with-atom .ensures) (taken-register _ _ _ _ _ (c .before .before .before .before .before .pre .fits)))
+returns-5 c =
+    took (c .before .before .token4 .given .1) (with-pen (c .with-atom .ensures) (taken-register _ _ _ _ _
+    (c .before .before .before .before .before .pre .fits)))
 
 returns-6 : tie.Need-returns-6
-returns-6 c = let told = c .before .before .before .before .token5 .given .1 in took told (with-pen (c .at-height4 .ensures) (taken-number _ _ _ _ _ _ _ (ready-as told (c .before .before .before .before .before .before .before .pre)) (c .before .put-test .ensures)))
+returns-6 c =
+    let told = c .before .before .before .before .token5 .given .1 in
+    took told (with-pen (c .at-height4 .ensures) (taken-number _ _ _ _ _ _ _ (ready-as told
+    (c .before .before .before .before .before .before .before .pre)) (c .before .put-test .ensures)))
 
 returns-7 : tie.Need-returns-7
 returns-7 c = took (c .enum-told2 .given .1) (taken-open _ _ _ _ (c .before .before .before .pre .fits))
