@@ -26,7 +26,7 @@ use Rattle.grammar.specs.Texting.{question17, writing, texting, countOf, output
 use Rattle.grammar.proofs.TableLaws.{length-words}
 use Rattle.grammar.proofs.TextLaws.{writing-in, writing-many, writing-few, count-refused, count-passed, text-promise32}
 use Rattle.text.specs.Stacks.{Holds}
-use Rattle.text.specs.Pens.{TableOf}
+use Rattle.text.specs.Progress.{TableOf}
 use Rattle.rule.specs.Answers.{countedOf}
 use Rattle.rule.specs.declared.answer.Counted.{Counted}
 use Rattle.rule.specs.declared.answer.Counted.the-variants.{Count, Refused}

@@ -10,6 +10,6 @@ pub mod StackLaws
 pub mod HoldLaws
 pub mod UnwindLaws
 pub mod WaitLaws
-pub mod PenLaws
+pub mod ProgressLaws
 pub mod WritingLaws
 pub mod AnswerLaws

@@ -1,4 +1,4 @@
--- A word that waits, and one that ends others first (`specs/Pens.antt`).
+-- A word that waits, and one that ends others first (`specs/Progress.antt`).
 --     room-waits                 there is a place for it
 --     waits-builds               what waiting builds
 --     join-room, join-builds     what joining builds
@@ -12,7 +12,7 @@ use Rattle.spec.specs.Rule.{form32}
 use Rattle.grammar.specs.Reading.{Waiting, levelOf, rank, Entry, Built, unwound, waits}
 use Rattle.text.specs.Building.{lastOf, begins, words, beginCost, finishCost}
 use Rattle.text.specs.Stacks.{waitingOf, entryOf, stackOf, builtOf, owed, LeftSmall, Holds, Fitting, Unwinds}
-use Rattle.text.specs.Pens.{Builds}
+use Rattle.text.specs.Progress.{Builds}
 use Rattle.text.proofs.BuildLaws.{begins-length}
 use Rattle.text.proofs.StackLaws.{stack-length, finish-some, entries-owed, unwound-weight}
 use Rattle.text.proofs.HoldLaws.{length-held}

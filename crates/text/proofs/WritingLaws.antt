@@ -1,4 +1,4 @@
--- The loop that writes a text's nodes (`specs/Pens.antt`).
+-- The loop that writes a text's nodes (`specs/Progress.antt`).
 --     Writing                    what is put and owed so far, and the tokens that are left, make the table
 --     writing-start, writing-token, writing-many, writing-ready, writing-next, writing-stuck, writing-end
 -- Assumes nothing.
@@ -26,14 +26,14 @@ use Rattle.text.specs.Tokens.{tokensIn, capped, cappedToken}
 use Rattle.text.specs.Places.{scanOf, scanAfter, Over}
 use Rattle.text.specs.Building.{words, tokenCost, cost}
 use Rattle.text.specs.Stacks.{stackOf, builtOf, owed, LeftSmall, Holds, Fitting, Unwinds}
-use Rattle.text.specs.Pens.{readingOf, depthIn, Ready, Takes, TableOf}
+use Rattle.text.specs.Progress.{readingOf, depthIn, Ready, Takes, TableOf}
 use Rattle.text.specs.declared.token.Prefix.the-variants as prefix
 use Rattle.text.specs.declared.token.Operator.the-variants as operator
 use Rattle.text.specs.declared.token.Token as token
 use Rattle.text.specs.declared.token.Token.the-variants as variant
 use Rattle.text.specs.declared.scan.Want.{Want}
 use Rattle.text.specs.declared.scan.Between.{Between}
-use Rattle.text.specs.declared.write.Pen.{Pen}
+use Rattle.text.specs.declared.write.Progress.{Progress}
 use Rattle.text.proofs.DigitLaws.{cap-low}
 use Rattle.text.proofs.TurnLaws.{Turning, turning-start, turning-next, depthOf}
 use Rattle.text.proofs.BuildLaws.{build-words, cost-append, cost-size}
@@ -115,7 +115,7 @@ depth-same w d variant.Below = refl
 
 -- ---- the loop
 
-pub record Writing (text stack table : List ℕ) (p : Pen) (s : Between) (total at : ℕ) : Type 0 where
+pub record Writing (text stack table : List ℕ) (p : Progress) (s : Between) (total at : ℕ) : Type 0 where
   pub turning : Turning text s at
   pub through : stuckFrom 0 start text ≡ none
   pub reading : whole (words form32) (readAll (words form32) (readingOf stack table p (s .depth)) (tokensFrom (scanOf s) (drop at text))) ≡ ruleWords form32 (opened (formulaOf text))
@@ -126,7 +126,7 @@ pub record Writing (text stack table : List ℕ) (p : Pen) (s : Between) (total 
   pub in-range : AllInRange (tokensFrom (scanOf s) (drop at text))
   pub register : p .register ≤ 15
 
-abbrev firstPen : Pen
+abbrev firstPen : Progress
 firstPen = record { height = record { top = 0; count = 0 }; register = 0; below = false }
 
 pub writing-start : (text table : List ℕ) (s : Between) → question16 text ≡ passed tt → question17 text ≡ passed tt → length table ≡ 32 → scanOf s ≡ start
@@ -146,7 +146,7 @@ writing-start text table s q₁₆ q₁₇ l e =
       register = omega arith;
     }
 
-module _ (text stack table : List ℕ) (p : Pen) (s : Between) (total at : ℕ) (x : Writing text stack table p s total at) where
+module _ (text stack table : List ℕ) (p : Progress) (s : Between) (total at : ℕ) (x : Writing text stack table p s total at) where
   abbrev rest : List Token
   rest = tokensFrom (scanOf s) (drop at text)
 
@@ -184,7 +184,7 @@ module _ (text stack table : List ℕ) (p : Pen) (s : Between) (total at : ℕ) 
         register = x .register;
       }
 
-      pub writing-next : (stack′ table′ : List ℕ) (q : Pen) (s′ : Between) → Takes stack table p (s .depth) t stack′ table′ q → scanOf s′ ≡ scanAfter (s .want) (s .depth) t
+      pub writing-next : (stack′ table′ : List ℕ) (q : Progress) (s′ : Between) → Takes stack table p (s .depth) t stack′ table′ q → scanOf s′ ≡ scanAfter (s .want) (s .depth) t
           → Writing text stack′ table′ q s′ (total + cost (tokensIn t)) next
       writing-next stack′ table′ q s′ k e =
           let ready = writing-ready in

@@ -2,5 +2,5 @@ pub mod Tokens
 pub mod Places
 pub mod Building
 pub mod Stacks
-pub mod Pens
+pub mod Progress
 pub mod Answers

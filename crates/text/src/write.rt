@@ -37,10 +37,10 @@ ghost use Rattle.grammar.specs.Reading.{awaiting, withLeft, rank, unwound, wait
 ghost use Rattle.text.specs.Tokens.{prefixOf, operatorOf, tokensIn};
 ghost use Rattle.text.specs.Building.{words, begins, beginCost, finishCost, tokenCost, cost};
 ghost use Rattle.text.specs.Stacks.{waitingOf, stackOf, builtOf, owed, Holds, Fitting};
-ghost use Rattle.text.specs.Pens.{Builds, penAt, penWith, Ready, Takes, TableOf};
+ghost use Rattle.text.specs.Progress.{Builds, progressAt, progressWith, Ready, Takes, TableOf};
 
 // How many words wait and nodes are there, and the register and the sign of the atom that is being read.
-pub struct Pen {
+pub struct Progress {
     pub height: Height,
     pub register: u32,
     pub below: bool,
@@ -169,21 +169,21 @@ fn nodes_for(token: Token) -> usize
     }
 }
 
-fn at_height(pen: Pen, top: usize, count: usize) -> Pen
-    ensures { λ r. ⌜ r ≡ penAt pen top count ⌝ }
+fn at_height(progress: Progress, top: usize, count: usize) -> Progress
+    ensures { λ r. ⌜ r ≡ progressAt progress top count ⌝ }
 {
-    Pen {
+    Progress {
         height: Height { top, count },
-        register: pen.register,
-        below: pen.below,
+        register: progress.register,
+        below: progress.below,
     }
 }
 
-fn with_atom(pen: Pen, register: u32, below: bool) -> Pen
-    ensures { λ r. ⌜ r ≡ penWith pen register below ⌝ }
+fn with_atom(progress: Progress, register: u32, below: bool) -> Progress
+    ensures { λ r. ⌜ r ≡ progressWith progress register below ⌝ }
 {
-    let height = pen.height;
-    Pen {
+    let height = progress.height;
+    Progress {
         height,
         register,
         below,
@@ -193,23 +193,23 @@ fn with_atom(pen: Pen, register: u32, below: bool) -> Pen
 // What a token puts and leaves waiting.
 fn take_token(
     token: Token,
-    pen: Pen,
+    progress: Progress,
     depth: usize,
     stack: &mut [usize; 96],
     table: &mut [u32; 32],
-) -> Pen
-    requires { ⌜ Ready (now stack) (now table) pen token ⌝ }
-    ensures { λ r. ⌜ Takes (now (stack .entry)) (now (table .entry)) pen depth token (now (stack .exit)) (now (table .exit)) r ⌝ }
+) -> Progress
+    requires { ⌜ Ready (now stack) (now table) progress token ⌝ }
+    ensures { λ r. ⌜ Takes (now (stack .entry)) (now (table .entry)) progress depth token (now (stack .exit)) (now (table .exit)) r ⌝ }
 {
-    let height = pen.height;
+    let height = progress.height;
     let top = height.top;
     let count = height.count;
     match token {
-        Token::Space => pen,
-        Token::Constant { value } => at_height(pen, top, put_constant(table, count, value)),
+        Token::Space => progress,
+        Token::Constant { value } => at_height(progress, top, put_constant(table, count, value)),
         Token::Prefix { word } => {
             let h = wait(stack, top, table, count, prefix_number(word), depth);
-            at_height(pen, h.top, h.count)
+            at_height(progress, h.top, h.count)
         }
         Token::Operator { word } => {
             let h = join(
@@ -221,18 +221,18 @@ fn take_token(
                 depth,
                 operator_level(word),
             );
-            at_height(pen, h.top, h.count)
+            at_height(progress, h.top, h.count)
         }
-        Token::Register { number } => with_atom(pen, number, pen.below),
+        Token::Register { number } => with_atom(progress, number, progress.below),
         Token::Number { number } => at_height(
-            pen,
+            progress,
             top,
-            put_test(table, count, pen.below, pen.register, number),
+            put_test(table, count, progress.below, progress.register, number),
         ),
-        Token::Open => pen,
-        Token::Close => pen,
-        Token::Equal => with_atom(pen, pen.register, false),
-        Token::Below => with_atom(pen, pen.register, true),
+        Token::Open => progress,
+        Token::Close => progress,
+        Token::Equal => with_atom(progress, progress.register, false),
+        Token::Below => with_atom(progress, progress.register, true),
     }
 }
 
@@ -243,7 +243,7 @@ pub(crate) fn write_nodes(text: &[u8], table: &mut [u32; 32]) -> usize
     ensures { λ r. ⌜ TableOf (now (text .entry)) (now (table .exit)) r ⌝ }
 {
     let mut stack = [0usize; 96];
-    let mut pen = Pen {
+    let mut progress = Progress {
         height: Height { top: 0, count: 0 },
         register: 0,
         below: false,
@@ -261,11 +261,11 @@ pub(crate) fn write_nodes(text: &[u8], table: &mut [u32; 32]) -> usize
         if 32 < total {
             return total;
         }
-        pen = take_token(token, pen, s.depth, &mut stack, table);
+        progress = take_token(token, progress, s.depth, &mut stack, table);
         s = after_token(s, token);
         at = next;
     }
-    let height = pen.height;
+    let height = progress.height;
     let ended = unwind(&stack, height.top, table, height.count, 0, 0);
     ended.count
 }

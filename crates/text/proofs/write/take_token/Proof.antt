@@ -1,5 +1,5 @@
 -- `text::write::take_token` meets its contract, token by token. Assumes nothing.
-use Rattle.text.proofs.PenLaws.{ready-as, took, with-pen, taken-space, taken-open, taken-close, taken-register, taken-equal, taken-below, constant-room, taken-constant, number-room, taken-number, prefix-room, taken-prefix, operator-room, taken-operator}
+use Rattle.text.proofs.ProgressLaws.{ready-as, took, with-progress, taken-space, taken-open, taken-close, taken-register, taken-equal, taken-below, constant-room, taken-constant, number-room, taken-number, prefix-room, taken-prefix, operator-room, taken-operator}
 use borrow.Author.Needs.{needs}
 use Rattle.text.proofs.write.take_token.Statement.{statement}
 use Rattle.text.proofs.write.take_token.Tie as tie
@@ -87,14 +87,14 @@ returns c = took (c .enum-told .given .1) (taken-space _ _ _ _ (c .before .befor
 returns-2 : tie.Need-returns-2
 returns-2 c =
     let told = c .before .before .before .before .token .given .1 in
-    took told (with-pen (c .at-height .ensures) (taken-constant _ _ _ _ _ _ _ (ready-as told
+    took told (with-progress (c .at-height .ensures) (taken-constant _ _ _ _ _ _ _ (ready-as told
     (c .before .before .before .before .before .before .before .pre)) (c .before .put-constant .ensures)))
 
 returns-3 : tie.Need-returns-3
 returns-3 c =
     let prefix-number = c .before .before .prefix-number in
     let told = c .before .before .before .before .before .before .token2 .given .1 in
-    took told (with-pen (c .at-height2 .ensures) (taken-prefix _ _ _ _ _ (prefix-number .result) (prefix-number .ensures) (ready-as told
+    took told (with-progress (c .at-height2 .ensures) (taken-prefix _ _ _ _ _ (prefix-number .result) (prefix-number .ensures) (ready-as told
     (c .before .before .before .before .before .before .before .before .before .pre)) _ _ _ _ (c .before .wait .ensures)))
 
 returns-4 : tie.Need-returns-4
@@ -102,19 +102,19 @@ returns-4 c =
     let operator-number = c .before .before .before .operator-number in
     let operator-level = c .before .before .operator-level in
     let told = c .before .before .before .before .before .before .before .token3 .given .1 in
-    took told (with-pen (c .at-height3 .ensures) (taken-operator _ _ _ _ _ (operator-number .result) (operator-level .result)
+    took told (with-progress (c .at-height3 .ensures) (taken-operator _ _ _ _ _ (operator-number .result) (operator-level .result)
     (operator-number .ensures) (operator-level .ensures) (ready-as told
     (c .before .before .before .before .before .before .before .before .before .before .pre)) _ _ _ _ (c .before .join .ensures)))
 
 returns-5 : tie.Need-returns-5
 returns-5 c =
-    took (c .before .before .token4 .given .1) (with-pen (c .with-atom .ensures) (taken-register _ _ _ _ _
+    took (c .before .before .token4 .given .1) (with-progress (c .with-atom .ensures) (taken-register _ _ _ _ _
     (c .before .before .before .before .before .pre .fits)))
 
 returns-6 : tie.Need-returns-6
 returns-6 c =
     let told = c .before .before .before .before .token5 .given .1 in
-    took told (with-pen (c .at-height4 .ensures) (taken-number _ _ _ _ _ _ _ (ready-as told
+    took told (with-progress (c .at-height4 .ensures) (taken-number _ _ _ _ _ _ _ (ready-as told
     (c .before .before .before .before .before .before .before .pre)) (c .before .put-test .ensures)))
 
 returns-7 : tie.Need-returns-7
@@ -124,10 +124,10 @@ returns-8 : tie.Need-returns-8
 returns-8 c = took (c .enum-told3 .given .1) (taken-close _ _ _ _ (c .before .before .before .pre .fits))
 
 returns-9 : tie.Need-returns-9
-returns-9 c = took (c .before .enum-told4 .given .1) (with-pen (c .with-atom2 .ensures) (taken-equal _ _ _ _ (c .before .before .before .before .pre .fits)))
+returns-9 c = took (c .before .enum-told4 .given .1) (with-progress (c .with-atom2 .ensures) (taken-equal _ _ _ _ (c .before .before .before .before .pre .fits)))
 
 returns-10 : tie.Need-returns-10
-returns-10 c = took (c .before .enum-told5 .given .1) (with-pen (c .with-atom3 .ensures) (taken-below _ _ _ _ (c .before .before .before .before .pre .fits)))
+returns-10 c = took (c .before .enum-told5 .given .1) (with-progress (c .with-atom3 .ensures) (taken-below _ _ _ _ (c .before .before .before .before .pre .fits)))
 
 pub take-token-spec : {M : Type 1} → statement M
 take-token-spec =

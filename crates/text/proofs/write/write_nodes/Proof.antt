@@ -5,17 +5,17 @@ use Prim.Native.Nat.{_+_, _-_}
 use native.Mathlib.Omega.{arith}
 use lib.ListN.{length}
 use borrow.Author.Needs.{needs}
-use Rattle.text.specs.Pens.{TableOf}
+use Rattle.text.specs.Progress.{TableOf}
 use Rattle.text.specs.Places.{scanOf, Over, Reads}
 use Rattle.text.proofs.WritingLaws.{cost-small, Writing, writing-start, writing-stuck, writing-many, writing-ready, writing-next, writing-end}
 use Rattle.text.proofs.write.write_nodes.Statement.{statement}
 use Rattle.text.proofs.write.write_nodes.Tie as tie
 
 abbrev Inv-loop : tie.InvT-loop
-Inv-loop text table₀ stack₀ pen₀ s₀ total₀ at₀ table stack pen s total at = Writing text stack table pen s total at
+Inv-loop text table₀ stack₀ progress₀ s₀ total₀ at₀ table stack progress s total at = Writing text stack table progress s total at
 
 abbrev μ-loop : tie.MeasureT-loop
-μ-loop text table₀ stack₀ pen₀ s₀ total₀ at₀ table stack pen s total at = length text - at
+μ-loop text table₀ stack₀ progress₀ s₀ total₀ at₀ table stack progress s total at = length text - at
 
 wanting-requires : tie.Need-wanting-requires Inv-loop μ-loop
 wanting-requires c κs = search needs

@@ -1,5 +1,5 @@
--- One token taken (`specs/Pens.antt`).
---     ready-as, took, with-pen         for a token or a pen that is this one
+-- One token taken (`specs/Progress.antt`).
+--     ready-as, took, with-progress         for a token or a progress that is this one
 --     taken-space, taken-open, taken-close, taken-register, taken-equal, taken-below      nothing is put
 --     constant-room, taken-constant, number-room, taken-number      an operand
 --     prefix-room, taken-prefix, operator-room, taken-operator      a word that waits
@@ -18,12 +18,12 @@ use Rattle.grammar.specs.Reading.{Waiting, awaiting, withLeft, rank, Built, Rea
 use Rattle.text.specs.Tokens.{prefixOf, operatorOf, tokensIn}
 use Rattle.text.specs.Building.{put, putConstant, words, beginCost, finishCost, tokenCost, cost}
 use Rattle.text.specs.Stacks.{waitingOf, stackOf, builtOf, owed, comparisonOf, Holds, Fitting}
-use Rattle.text.specs.Pens.{Builds, penAt, penWith, readingWith, Ready, Takes}
+use Rattle.text.specs.Progress.{Builds, progressAt, progressWith, readingWith, Ready, Takes}
 use Rattle.text.specs.declared.token.Prefix.{Prefix}
 use Rattle.text.specs.declared.token.Operator.{Operator}
 use Rattle.text.specs.declared.token.Token as token
 use Rattle.text.specs.declared.token.Token.the-variants as variant
-use Rattle.text.specs.declared.write.Pen.{Pen}
+use Rattle.text.specs.declared.write.Progress.{Progress}
 use Rattle.text.proofs.BuildLaws.{put-length, true-length}
 use Rattle.text.proofs.HoldLaws.{length-held}
 
@@ -33,18 +33,18 @@ strength-small typed.andWord = omega arith
 strength-small typed.orWord = omega arith
 strength-small typed.impliesWord = omega arith
 
--- a token, and a pen, that is this one
-pub ready-as : {stack table : List ℕ} {p : Pen} {t x : token.Token} → t ≡ x → Ready stack table p t → Ready stack table p x
+-- a token, and a progress, that is this one
+pub ready-as : {stack table : List ℕ} {p : Progress} {t x : token.Token} → t ≡ x → Ready stack table p t → Ready stack table p x
 ready-as {stack} {table} {p} e h = subst (Ready stack table p) e h
 
-module _ {stack table stack′ table′ : List ℕ} {p : Pen} {depth : ℕ} where
-  pub took : {t x : token.Token} {r : Pen} → t ≡ x → Takes stack table p depth x stack′ table′ r → Takes stack table p depth t stack′ table′ r
+module _ {stack table stack′ table′ : List ℕ} {p : Progress} {depth : ℕ} where
+  pub took : {t x : token.Token} {r : Progress} → t ≡ x → Takes stack table p depth x stack′ table′ r → Takes stack table p depth t stack′ table′ r
   took {r = r} e h = subst (λ y. Takes stack table p depth y stack′ table′ r) (sym e) h
 
-  pub with-pen : {t : token.Token} {r q : Pen} → r ≡ q → Takes stack table p depth t stack′ table′ q → Takes stack table p depth t stack′ table′ r
-  with-pen {t = t} e h = subst (Takes stack table p depth t stack′ table′) (sym e) h
+  pub with-progress : {t : token.Token} {r q : Progress} → r ≡ q → Takes stack table p depth t stack′ table′ q → Takes stack table p depth t stack′ table′ r
+  with-progress {t = t} e h = subst (Takes stack table p depth t stack′ table′) (sym e) h
 
-module _ (stack table : List ℕ) (p : Pen) (depth : ℕ) where
+module _ (stack table : List ℕ) (p : Progress) (depth : ℕ) where
   abbrev count : ℕ
   count = p .height .count
 
@@ -65,15 +65,15 @@ module _ (stack table : List ℕ) (p : Pen) (depth : ℕ) where
   unfolding readAll read
   taken-close f = record { reading = refl; fits = f }
 
-  pub taken-register : (n : ℕ) → Fitting stack top table count → Takes stack table p depth (variant.Register n) stack table (penWith p n (p .below))
+  pub taken-register : (n : ℕ) → Fitting stack top table count → Takes stack table p depth (variant.Register n) stack table (progressWith p n (p .below))
   unfolding readAll read
   taken-register n f = record { reading = refl; fits = f }
 
-  pub taken-equal : Fitting stack top table count → Takes stack table p depth variant.Equal stack table (penWith p (p .register) false)
+  pub taken-equal : Fitting stack top table count → Takes stack table p depth variant.Equal stack table (progressWith p (p .register) false)
   unfolding readAll read
   taken-equal f = record { reading = refl; fits = f }
 
-  pub taken-below : Fitting stack top table count → Takes stack table p depth variant.Below stack table (penWith p (p .register) true)
+  pub taken-below : Fitting stack top table count → Takes stack table p depth variant.Below stack table (progressWith p (p .register) true)
   unfolding readAll read
   taken-below f = record { reading = refl; fits = f }
 
@@ -97,7 +97,7 @@ module _ (stack table : List ℕ) (p : Pen) (depth : ℕ) where
   constant-room v r = (let k = r .room in omega arith, r .fits .table-long)
 
   pub taken-constant : (v : Bool) (table′ : List ℕ) (n : ℕ) → Ready stack table p (variant.Constant v) → Holds table′ n (putConstant form32 v (take count table))
-      → Takes stack table p depth (variant.Constant v) stack table′ (penAt p top n)
+      → Takes stack table p depth (variant.Constant v) stack table′ (progressAt p top n)
   unfolding readAll read
   taken-constant v table′ n r h = record {
     reading = ap (λ ws. readingWith p depth (record { stack = stackOf stack top; value = ws })) (h .words);
@@ -110,7 +110,7 @@ module _ (stack table : List ℕ) (p : Pen) (depth : ℕ) where
 
   pub taken-number : (c : ℕ) (table′ : List ℕ) (n : ℕ) → Ready stack table p (variant.Number c)
       → Holds table′ n (put form32 (testNode (testOf (comparisonOf (p .below)) (p .register) c)) (take count table))
-      → Takes stack table p depth (variant.Number c) stack table′ (penAt p top n)
+      → Takes stack table p depth (variant.Number c) stack table′ (progressAt p top n)
   unfolding readAll read
   taken-number c table′ n r h = record {
     reading = ap (λ ws. readingWith p depth (record { stack = stackOf stack top; value = ws })) (h .words);
@@ -125,7 +125,7 @@ module _ (stack table : List ℕ) (p : Pen) (depth : ℕ) where
     prefix-room = (r .fits, (let k = r .room in let a = ap beginCost e in let b = ap finishCost e in omega arith))
 
     pub taken-prefix : (stack′ : List ℕ) (top′ : ℕ) (table′ : List ℕ) (n : ℕ)
-        → Builds stack′ top′ table′ n (waits (words form32) depth (waitingOf m) (builtOf stack top table count)) → Takes stack table p depth (variant.Prefix w) stack′ table′ (penAt p top′ n)
+        → Builds stack′ top′ table′ n (waits (words form32) depth (waitingOf m) (builtOf stack top table count)) → Takes stack table p depth (variant.Prefix w) stack′ table′ (progressAt p top′ n)
     unfolding readAll read
     taken-prefix stack′ top′ table′ n b = record {
       reading = ap (readingWith p depth)
@@ -144,7 +144,7 @@ module _ (stack table : List ℕ) (p : Pen) (depth : ℕ) where
 
     pub taken-operator : (stack′ : List ℕ) (top′ : ℕ) (table′ : List ℕ) (n : ℕ)
         → Builds stack′ top′ table′ n (waits (words form32) depth (waitingOf m) (unwound (words form32) (rank depth level) (stackOf stack top) (take count table)))
-        → Takes stack table p depth (variant.Operator w) stack′ table′ (penAt p top′ n)
+        → Takes stack table p depth (variant.Operator w) stack′ table′ (progressAt p top′ n)
     unfolding readAll read
     taken-operator stack′ top′ table′ n b = record {
       reading = ap (readingWith p depth)

@@ -13,7 +13,7 @@ use Rattle.text.specs.Tokens.{tokensIn}
 use Rattle.text.specs.Building.{words, cost}
 use Rattle.text.specs.Stacks.{stackOf, builtOf, owed, comparisonOf, Holds, Fitting}
 use Rattle.text.specs.declared.token.Token as token
-use Rattle.text.specs.declared.write.Pen.{Pen}
+use Rattle.text.specs.declared.write.Progress.{Progress}
 
 -- the arrays hold what is built
 pub record Builds (stack : List ℕ) (top : ℕ) (table : List ℕ) (count : ℕ) (x : Built (List ℕ) ℕ) : Type 0 where
@@ -22,16 +22,16 @@ pub record Builds (stack : List ℕ) (top : ℕ) (table : List ℕ) (count : ℕ
 
 -- ---- one token, or a space
 
-abbrev pub penAt : Pen → (top count : ℕ) → Pen
-penAt p t n = record { height = record { top = t; count = n }; register = p .register; below = p .below }
+abbrev pub progressAt : Progress → (top count : ℕ) → Progress
+progressAt p t n = record { height = record { top = t; count = n }; register = p .register; below = p .below }
 
-abbrev pub penWith : Pen → (register : ℕ) (below : Bool) → Pen
-penWith p n b = record { height = p .height; register = n; below = b }
+abbrev pub progressWith : Progress → (register : ℕ) (below : Bool) → Progress
+progressWith p n b = record { height = p .height; register = n; below = b }
 
-abbrev pub readingWith : Pen → (depth : ℕ) → Built (List ℕ) ℕ → Reading (List ℕ) ℕ
+abbrev pub readingWith : Progress → (depth : ℕ) → Built (List ℕ) ℕ → Reading (List ℕ) ℕ
 readingWith p d x = record { built = x; depth = d; ofRegister = p .register; comparedBy = comparisonOf (p .below) }
 
-abbrev pub readingOf : (stack table : List ℕ) → Pen → (depth : ℕ) → Reading (List ℕ) ℕ
+abbrev pub readingOf : (stack table : List ℕ) → Progress → (depth : ℕ) → Reading (List ℕ) ℕ
 readingOf stack table p d = readingWith p d (builtOf stack (p .height .top) table (p .height .count))
 
 abbrev pub depthIn : ℕ → List Token → ℕ
@@ -39,14 +39,14 @@ depthIn d [] = d
 depthIn d (t ∷ ts) = depthIn (depthAfter d t) ts
 
 -- it may be taken: there is room for its nodes, and its number is in range
-pub record Ready (stack table : List ℕ) (p : Pen) (t : token.Token) : Type 0 where
+pub record Ready (stack table : List ℕ) (p : Progress) (t : token.Token) : Type 0 where
   pub fits : Fitting stack (p .height .top) table (p .height .count)
   pub room : p .height .count + owed (stackOf stack (p .height .top)) + cost (tokensIn t) ≤ 32
   pub in-range : AllInRange (tokensIn t)
   pub register : p .register ≤ 15
 
 -- what is built after it
-pub record Takes (stack table : List ℕ) (p : Pen) (depth : ℕ) (t : token.Token) (stack′ table′ : List ℕ) (r : Pen) : Type 0 where
+pub record Takes (stack table : List ℕ) (p : Progress) (depth : ℕ) (t : token.Token) (stack′ table′ : List ℕ) (r : Progress) : Type 0 where
   pub reading : readingOf stack′ table′ r (depthIn depth (tokensIn t)) ≡ readAll (words form32) (readingOf stack table p depth) (tokensIn t)
   pub fits : Fitting stack′ (r .height .top) table′ (r .height .count)
 
