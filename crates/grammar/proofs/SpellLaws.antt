@@ -5,7 +5,6 @@
 --     fits-spells                             tokens that fit spell a formula
 --     spells-fits                             tokens that spell one fit
 -- Assumes nothing.
--- ---- levels
 use mathlib.Core.Path.{_≡_, refl, sym, subst, ap, _∙_}
 use mathlib.Core.Logic.{_⊎_, inl, inr}
 use mathlib.Core.Bool.{true, false}
@@ -20,6 +19,8 @@ use Rattle.spec.proofs.BoolLaws.{clash, le-or-lt}
 use Rattle.grammar.specs.Typed.{Prefix, Operator, sinceWord, andWord, orWord, impliesWord, Comparison, TextFormula, constant, atom, prefixed, joined}
 use Rattle.grammar.specs.Grammar.{constantWord, prefixWord, operatorWord, Sign, openSign, closeSign, equalSign, belowSign, Token, word, register, number, sign, strength, leftLevel, rightLevel, Compares, byEqual, byBelow, Spells, aConstant, anAtom, inBrackets, aPrefixed, aJoined, tighter}
 use Rattle.grammar.specs.Place.{operand, comparison, constantNumber, operator, Place, at, afterToken, fits}
+
+-- ---- levels
 
 lower : (k : ℕ) {l : ℕ} {ts : List Token} {φ : TextFormula} → Spells (k + l) ts φ → Spells l ts φ
 lower zero {l} {ts} {φ} e = let z : zero + l ≡ l = omega arith in subst (λ n. Spells n ts φ) z e

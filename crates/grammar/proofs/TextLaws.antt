@@ -3,7 +3,7 @@
 --     text-promise32    for document 01's
 --     writing-in, writing-many, writing-few      questions 18 and 13 of a formula
 --     count-refused, count-passed                an answer by its count
---     number16                                   16 has this number
+--     refused-16                                 a no of question 16 has this number
 -- Assumes nothing.
 use mathlib.Core.Path.{_≡_, refl, sym, subst, ap, _∙_}
 use mathlib.Core.Logic.{_⊎_, inl, inr}
@@ -15,7 +15,7 @@ use lib.ListN.{length}
 use lib.Dec.{leb}
 use borrow.Author.Tests.{leb-true, le-leb, lt-leb}
 use Rattle.spec.specs.Logic.{Trace, Formula}
-use Rattle.spec.specs.Questions.{Answer, passed, refused, _then_, firstFailing, ask, askOnce}
+use Rattle.spec.specs.Questions.{Answer, passed, refused, Checked, _then_, firstFailing, ask, askOnce}
 use Rattle.spec.specs.Rule.{Form, form32, tableOf, ruleOf}
 use Rattle.spec.specs.Judging.{Verdict, breach, clean, verdictOn, Means as VerdictMeans}
 use Rattle.spec.proofs.QuestionLaws.{then-passed, then-refused, then-no, both-passed, once-in, once-no, once-out, once-number, no-number}
@@ -69,9 +69,12 @@ judged σ φ (clean n) m = (m .0, λ j l. opened-agrees σ φ j .1 (m .1 j l))
 
 -- ---- a refusal has its question's number
 
-pub number16 : (bs : List ℕ) (q i : ℕ) → question16 bs ≡ refused q i → 16 ≡ q
+number16 : (bs : List ℕ) (q i : ℕ) → question16 bs ≡ refused q i → 16 ≡ q
 unfolding question16
 number16 bs q i e = no-number 16 q i (stuckFrom 0 start bs) e
+
+pub refused-16 : (bs : List ℕ) (q i : ℕ) → question16 bs ≡ refused q i → question16 bs ≡ refused 16 i
+refused-16 bs q i e = e ∙ ap (λ n. refused n i) (sym (number16 bs q i e))
 
 number17 : (bs : List ℕ) (q i : ℕ) → question17 bs ≡ refused q i → 17 ≡ q
 unfolding question17 ask
@@ -141,6 +144,27 @@ module _ (form : Form) (good : GoodForm form) where
         ]
       ]
 
+  outside-refused : (bs : List ℕ) → ((φ : TextFormula) → IsText bs φ → ⊥) → (lent : ℕ) → (i : ℕ) × (texting form lent bs ≡ refused 16 i)
+  unfolding texting
+  outside-refused bs none lent = go (question16 bs) refl
+    where
+      go : (a : Checked) → question16 bs ≡ a → (i : ℕ) × (texting form lent bs ≡ refused 16 i)
+      go (passed u) e = let (φ, x) = passes-text bs e in absurd (none φ x)
+      go (refused q i) e = (i, then-refused (question16 bs) _ 16 i (refused-16 bs q i e))
+
+  beyond-refused : (bs : List ℕ) (φ : TextFormula) → IsText bs φ → (InRange φ → ⊥) → (lent : ℕ)
+      → (i : ℕ) × (texting form lent bs ≡ refused 17 i)
+  unfolding texting
+  beyond-refused bs φ x out lent = go (question17 bs) refl
+    where
+      go : (a : Checked) → question17 bs ≡ a → (i : ℕ) × (texting form lent bs ≡ refused 17 i)
+      go (passed u) e = absurd (out (ranges-agree bs φ x .0 e))
+      go (refused q i) e = (
+        i,
+        then-passed (question16 bs) _ (text-passes bs φ x)
+            ∙ then-refused (question17 bs) _ 17 i (e ∙ ap (λ n. refused n i) (sym (number17 bs q i e))),
+      )
+
   stuck-out : (bs : List ℕ) (lent i : ℕ) → texting form lent bs ≡ refused 16 i → StuckAt bs i
   unfolding texting
   stuck-out bs lent i e =
@@ -178,10 +202,10 @@ module _ (form : Form) (good : GoodForm form) where
   text-promise = record {
     meaning = opened-agrees;
     one = text-one;
-    texts = λ bs. (passes-text bs, λ x. text-passes bs (x .0) (x .1));
+    outside = outside-refused;
     stuck = stuck-out;
     stuck-once = stuck-one;
-    ranges = ranges-agree;
+    beyond = beyond-refused;
     out-of-range = range-out;
     too-many = λ bs φ x r many lent. text-writing bs φ x r lent ∙ writing-many lent (opened φ) many;
     too-few = λ bs φ x r few lent short. text-writing bs φ x r lent ∙ writing-few lent (opened φ) few short;

@@ -11,9 +11,8 @@ use Rattle.spec.specs.Rule.{Form, tableOf, ruleOf, checkRule}
 use Rattle.spec.specs.Judging.{Verdict, breach, clean, verdictOn}
 use Rattle.grammar.specs.Typed.{TextFormula, constant, atom, prefixed, joined, Means, opened}
 use Rattle.grammar.specs.Grammar.{Token, word, register, number, sign, Writes, IsText, StuckAt}
-use Rattle.grammar.specs.Scan.{question16}
 use Rattle.grammar.specs.Nodes.{size}
-use Rattle.grammar.specs.Texting.{question17, texting}
+use Rattle.grammar.specs.Texting.{texting}
 
 -- ---- numbers in range: registers at most 15, constants at most 16,383
 
@@ -78,13 +77,13 @@ pub record TextPromise (form : Form) : Type 0 where
   pub meaning : (σ : Trace) (φ : TextFormula) (n : ℕ) → Means σ φ n ↔ Satisfies σ (opened φ) n
   -- a text spells one formula
   pub one : (bs : List ℕ) (φ ψ : TextFormula) → IsText bs φ → IsText bs ψ → φ ≡ ψ
-  -- 16 refuses just the texts outside the grammar,
-  pub texts : (bs : List ℕ) → (question16 bs ≡ passed tt) ↔ ((φ : TextFormula) × IsText bs φ)
-  -- at the first byte that no continuation could follow, or at the length where it ends too soon; there is one such place
+  -- a text outside the grammar is refused with 16,
+  pub outside : (bs : List ℕ) → ((φ : TextFormula) → IsText bs φ → ⊥) → (lent : ℕ) → (i : ℕ) × (texting form lent bs ≡ refused 16 i)
+  -- which stands at the first byte that no continuation could follow, or at the length where it ends too soon; there is one such place
   pub stuck : (bs : List ℕ) (lent i : ℕ) → texting form lent bs ≡ refused 16 i → StuckAt bs i
   pub stuck-once : (bs : List ℕ) (i j : ℕ) → StuckAt bs i → StuckAt bs j → i ≡ j
-  -- 17 refuses just the texts with a number out of range, at the first such number's first byte
-  pub ranges : (bs : List ℕ) (φ : TextFormula) → IsText bs φ → (question17 bs ≡ passed tt) ↔ InRange φ
+  -- a text with a number out of range is refused with 17, which stands at the first such number's first byte
+  pub beyond : (bs : List ℕ) (φ : TextFormula) → IsText bs φ → (InRange φ → ⊥) → (lent : ℕ) → (i : ℕ) × (texting form lent bs ≡ refused 17 i)
   pub out-of-range : (bs : List ℕ) (lent i : ℕ) → texting form lent bs ≡ refused 17 i → OutOfRangeAt false bs i
   -- 18: more nodes than the rule's stored form allows; 13: too few words in the output
   pub too-many : (bs : List ℕ) (φ : TextFormula) → IsText bs φ → InRange φ → form .width < size (opened φ)

@@ -3,7 +3,6 @@
 --     begun-all, begun-other, begun-is       whether a candidate has begun
 --     begun-begins                           some text of the grammar goes on with the rest of one that has
 -- Assumes nothing.
--- ---- letters just before a place
 use mathlib.Core.Path.{_≡_, sym, ap, subst, _∙_}
 use mathlib.Core.Logic.{_≢_}
 use mathlib.Core.Bool.{Bool, true, false, cond, _&&_}
@@ -19,6 +18,8 @@ use Rattle.grammar.specs.Bytes.{agreeing}
 use Rattle.grammar.proofs.StopLaws.{agreeing-same}
 use Rattle.report.specs.Compiled.{mayStand, isBegun, isLetter, lettersBefore}
 use Rattle.report.proofs.StandLaws.{Begins, stands-begins}
+
+-- ---- letters just before a place
 
 letter-here : (text : List ℕ) (i : ℕ) → isLetter (getD text i 0) ≡ true → lettersBefore text (suc i) ≡ suc (lettersBefore text i)
 unfolding lettersBefore

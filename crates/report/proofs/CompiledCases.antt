@@ -1,7 +1,6 @@
 -- What the compile program prints, by computation: inputs with and without the end of a line. More are run (crate cases_run).
 --     compiled-cases      nodes; what may stand at a 16, and within a word; a 17; an 18
 -- Assumes nothing.
--- an input, and what is printed
 use mathlib.Core.Path.{_≡_, refl}
 use mathlib.Core.List.{List, [], _∷_, map}
 use Prim.Native.String.{String}
@@ -13,6 +12,7 @@ use Rattle.print.specs.Decimal.{digitsFor, decimal, refusedText}
 use Rattle.print.specs.Written.{eachOf}
 use Rattle.report.specs.Compiled.{textIn, hexText, nodesText, shownText, pointerText, markText, mayStand, candidates, itemsText, lettersBefore, expectedItems, expectedText, compiledText}
 
+-- an input, and what is printed
 pub record Case : Type 0 where
   pub input : String
   pub output : String

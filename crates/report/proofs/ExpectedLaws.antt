@@ -4,7 +4,6 @@
 --     items-start, items-next, items-end      one after another
 --     expected-none, expected-some      within a word, and elsewhere
 -- Assumes nothing.
--- ---- one
 use mathlib.Core.Path.{_≡_, refl, sym, ap, subst}
 use mathlib.Core.Logic.{_≢_, inl, inr}
 use mathlib.Core.Bool.{Bool, true, false, cond}
@@ -17,6 +16,8 @@ use Rattle.print.specs.Decimal.{space}
 use Rattle.print.specs.Written.{Added, Filled}
 use Rattle.print.proofs.AddedLaws.{added-none, filled-as, filled-is, filled-last, each-start, each-next}
 use Rattle.report.specs.Compiled.{Candidate, itself, candidates, itemText, itemsText, lettersBefore, orElse, expectedItems}
+
+-- ---- one
 
 pub item-stands : (b : Bool) (shown : List ℕ) {at end : ℕ} {o o1 : List ℕ} → b ≡ true → Filled 9 (space ∷ shown) at end o o1
     → Filled 9 (cond b (space ∷ shown) []) at end o o1

@@ -3,8 +3,6 @@
 --     stands-passed, stands-refused                    what question 16 says of them
 --     Begins, stands-begins, begins-stands             just these may stand: some text of the grammar begins so
 -- Assumes nothing.
--- ---- in a buffer
--- the first n bytes are those before the place
 use mathlib.Core.Path.{_≡_, refl, sym, ap, subst, _∙_}
 use mathlib.Core.Logic.{_⊎_, inl, inr}
 use mathlib.Core.Bool.{true}
@@ -22,11 +20,14 @@ use Rattle.grammar.specs.Grammar.{IsText, StuckAt}
 use Rattle.grammar.specs.Scan.{question16}
 use Rattle.grammar.proofs.ScanLaws.{passes-text}
 use Rattle.grammar.proofs.StuckLaws.{stuck-at}
-use Rattle.grammar.proofs.TextLaws.{number16}
+use Rattle.grammar.proofs.TextLaws.{refused-16}
 use Rattle.print.specs.Written.{Added}
 use Rattle.print.proofs.AddedLaws.{added-as, added-then, added-length, loaded, front-is}
 use Rattle.report.specs.Compiled.{beyond, mayStand}
 
+-- ---- in a buffer
+
+-- the first n bytes are those before the place
 abbrev pub Before : List ℕ → (place n : ℕ) → Type 0
 Before text place n = (n ≤ place) × (n ≤ length text) × (n < place → n ≡ length text)
 
@@ -96,7 +97,7 @@ Begins bs = (rest : List ℕ) × (φ : TextFormula) × IsText (bs ++ rest) φ
 
 module _ (bs : List ℕ) where
   stuck : (q i : ℕ) → question16 bs ≡ refused q i → StuckAt bs i
-  stuck q i e = stuck-at bs i (e ∙ ap (λ n. refused n i) (sym (number16 bs q i e)))
+  stuck q i e = stuck-at bs i (refused-16 bs q i e)
 
   beyond-begins : (a : Checked) → question16 bs ≡ a → beyond (length bs) a ≡ true → Begins bs
   beyond-begins (passed u) e h = let (φ, x) = passes-text bs e in ([], φ, subst (λ l. IsText l φ) (sym (append-nil bs)) x)

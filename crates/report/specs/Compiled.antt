@@ -1,6 +1,5 @@
 -- What the compile program prints for the bytes of its input: the nodes of a rule typed as text, or where the text went wrong and what may stand
 -- there (document 02, 2026-04).
--- ---- the text of an input: its bytes without the end of the line
 use mathlib.Core.Bool.{Bool, true, cond, _&&_}
 use mathlib.Core.List.{List, [], _∷_, _++_, map}
 use Prim.Native.Nat.{ℕ, zero, suc, _-_}
@@ -16,6 +15,8 @@ use Rattle.grammar.specs.Scan.{question16}
 use Rattle.grammar.specs.Texting.{texting}
 use Rattle.print.specs.Decimal.{space, newline, refusedText}
 use Rattle.print.specs.Written.{eachOf}
+
+-- ---- the text of an input: its bytes without the end of the line
 
 abbrev pub withoutLast : (byte : ℕ) → List ℕ → List ℕ
 withoutLast b bs = cond (eqb (getD bs (length bs - 1) 0) b) (take (length bs - 1) bs) bs
