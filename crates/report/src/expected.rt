@@ -1,4 +1,5 @@
 // What may stand at a place of a text: the words and signs with which a text of the grammar goes on.
+use crate::least;
 use print::add_bytes;
 use rule::answer::Answer;
 use text::scan::ask_grammar;
@@ -12,12 +13,6 @@ ghost use lib.ListN.{length, getD};
 ghost use Rattle.print.specs.Decimal.{space};
 ghost use Rattle.print.specs.Written.{Filled};
 ghost use Rattle.report.specs.Compiled.{mayStand, itself, candidates, isBegun, itemText, itemsText, isLetter, lettersBefore, expectedItems, expectedText};
-
-fn least(a: usize, b: usize) -> usize
-    ensures { λ r. ⌜ (r ≤ a) × (r ≤ b) × (r < a → r ≡ b) ⌝ }
-{
-    if a < b { a } else { b }
-}
 
 // The bytes before the place and then these, put into `tried` and asked about.
 fn stands(text: &[u8], place: usize, bytes: &[u8], tried: &mut [u8]) -> bool

@@ -7,7 +7,7 @@ use rule::answer::Counted;
 use text::read_text;
 ghost use mathlib.Core.Path.{_≡_};
 ghost use mathlib.Core.List.{_++_};
-ghost use Prim.Native.Nat.{_*_, _+_, _≤_};
+ghost use Prim.Native.Nat.{_*_, _+_, _≤_, _<_};
 ghost use lib.ListN.{length, take, drop};
 ghost use Rattle.spec.specs.Rule.{form32};
 ghost use Rattle.grammar.specs.Texting.{texting};
@@ -16,6 +16,13 @@ ghost use Rattle.report.specs.Compiled.{withoutLast, textIn, hexText, no
 
 mod expected;
 mod mark;
+
+// The lesser of the two.
+pub(crate) fn least(a: usize, b: usize) -> usize
+    ensures { λ r. ⌜ (r ≤ a) × (r ≤ b) × (r < a → r ≡ b) ⌝ }
+{
+    if a < b { a } else { b }
+}
 
 // How long the first n bytes are without this byte at their end.
 fn without_last(bytes: &[u8], n: usize, byte: u8) -> usize

@@ -1,6 +1,8 @@
 // The text, and a mark under one of its bytes.
+use crate::least;
 use print::add_bytes;
 use text::token::is_between;
+use text::token::minus;
 ghost use mathlib.Core.Path.{_≡_};
 ghost use mathlib.Core.List.{map};
 ghost use Prim.Native.Nat.{_+_, _-_, _≤_, _<_};
@@ -11,21 +13,7 @@ ghost use Rattle.report.specs.Compiled.{visible, shownFrom, shownText, p
 fn shown_from(place: usize) -> usize
     ensures { λ r. ⌜ r ≡ shownFrom place ⌝ }
 {
-    if place < 60 { 0 } else { place - 60 }
-}
-
-// How many bytes are shown from there on.
-fn shown_count(length: usize, from: usize) -> usize
-    ensures { λ r. ⌜ (r ≤ 72) × (r ≤ length - from) × (r < 72 → r ≡ length - from) ⌝ }
-{
-    if length <= from {
-        return 0;
-    }
-    if length - from < 72 {
-        length - from
-    } else {
-        72
-    }
+    minus(place, 60)
 }
 
 fn show(b: u8) -> u8
@@ -53,7 +41,7 @@ fn add_text(text: &[u8], place: usize, at: usize, out: &mut [u8]) -> usize
     ensures { λ r. ⌜ Filled 73 (shownText (now (text .entry)) place) at r (now (out .entry)) (now (out .exit)) ⌝ }
 {
     let from = shown_from(place);
-    let n = shown_count(text.len(), from);
+    let n = least(72, minus(text.len(), from));
     let end = add_shown(text, from, n, at, out);
     add_bytes(b"\n", end, out)
 }

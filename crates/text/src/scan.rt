@@ -4,7 +4,7 @@ use crate::token::Operator;
 use crate::token::Prefix;
 use crate::token::Token;
 use crate::token::digits_at;
-use crate::token::less_one;
+use crate::token::minus;
 use crate::token::one_byte;
 use crate::token::read_word;
 use rule::answer::Answer;
@@ -191,7 +191,7 @@ pub(crate) fn after_token(s: Between, token: Token) -> Between
         Token::Register { number: _ } => wanting(Want::Comparison, depth, true),
         Token::Number { number: _ } => wanting(Want::Operator, depth, false),
         Token::Open => wanting(Want::Operand, depth + 1, false),
-        Token::Close => wanting(Want::Operator, less_one(depth), false),
+        Token::Close => wanting(Want::Operator, minus(depth, 1), false),
         Token::Equal => wanting(Want::Number, depth, false),
         Token::Below => wanting(Want::Number, depth, false),
     }

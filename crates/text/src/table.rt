@@ -1,5 +1,5 @@
 // Nodes put one after the other into a table of 32. `n` are there; each function hands back how many are then.
-use crate::token::less_one;
+use crate::token::minus;
 ghost use mathlib.Core.Path.{_≡_};
 ghost use mathlib.Core.List.{[], _∷_, _++_};
 ghost use Prim.Native.Nat.{_+_, _*_, _≤_, _<_};
@@ -76,21 +76,21 @@ fn put_implies(table: &mut [u32; 32], n: usize, left: usize) -> usize
     requires { ⌜ (n < 32) × (length (now table) ≡ 32) × (left < 32) ⌝ }
     ensures { λ r. ⌜ Holds (now (table .exit)) r (putImplies form32 left (take n (now (table .entry)))) ⌝ }
 {
-    put_word(table, n, node_word(3, left, less_one(n)))
+    put_word(table, n, node_word(3, left, minus(n, 1)))
 }
 
 fn put_since(table: &mut [u32; 32], n: usize, left: usize) -> usize
     requires { ⌜ (n < 32) × (length (now table) ≡ 32) × (left < 32) ⌝ }
     ensures { λ r. ⌜ Holds (now (table .exit)) r (putSince form32 left (take n (now (table .entry)))) ⌝ }
 {
-    put_word(table, n, node_word(4, left, less_one(n)))
+    put_word(table, n, node_word(4, left, minus(n, 1)))
 }
 
 fn put_weak(table: &mut [u32; 32], n: usize) -> usize
     requires { ⌜ (n < 32) × (length (now table) ≡ 32) ⌝ }
     ensures { λ r. ⌜ Holds (now (table .exit)) r (putWeak form32 (take n (now (table .entry)))) ⌝ }
 {
-    put_word(table, n, node_word(5, less_one(n), 0))
+    put_word(table, n, node_word(5, minus(n, 1), 0))
 }
 
 // Not of the last node.
@@ -99,7 +99,7 @@ pub(crate) fn put_not(table: &mut [u32; 32], n: usize) -> usize
     ensures { λ r. ⌜ Holds (now (table .exit)) r (putNot form32 (take n (now (table .entry)))) ⌝ }
 {
     let a = put_false(table, n);
-    put_implies(table, a, less_one(n))
+    put_implies(table, a, minus(n, 1))
 }
 
 pub(crate) fn put_true(table: &mut [u32; 32], n: usize) -> usize

@@ -48,11 +48,11 @@ pub struct Digits {
     pub next: usize,
 }
 
-// One less; 0 has none.
-pub(crate) fn less_one(n: usize) -> usize
-    ensures { λ r. ⌜ r ≡ n - 1 ⌝ }
+// The difference, or 0 where there is none.
+pub fn minus(a: usize, b: usize) -> usize
+    ensures { λ r. ⌜ r ≡ a - b ⌝ }
 {
-    if n == 0 { 0 } else { n - 1 }
+    if a < b { 0 } else { a - b }
 }
 
 pub fn is_between(low: u8, b: u8, high: u8) -> bool

@@ -23,7 +23,7 @@ use crate::token::Lexed;
 use crate::token::Operator;
 use crate::token::Prefix;
 use crate::token::Token;
-use crate::token::less_one;
+use crate::token::minus;
 ghost use mathlib.Core.Path.{_≡_};
 ghost use Prim.Native.Nat.{suc, _+_, _≤_};
 ghost use lib.ListN.{length, take};
@@ -107,7 +107,7 @@ fn wait(
     ensures { λ r. ⌜ Builds (now (stack .exit)) (r .top) (now (table .exit)) (r .count) (waits (words form32) depth (waitingOf word) (builtOf (now (stack .entry)) top (now (table .entry)) count)) ⌝ }
 {
     let n = put_begin(table, count, word);
-    let t = push(stack, top, word, less_one(n), depth);
+    let t = push(stack, top, word, minus(n, 1), depth);
     Height { top: t, count: n }
 }
 

@@ -57,8 +57,8 @@ wanting-requires-7 c κs = search needs
 enum-told-8 : tie.Need-enum-told-8
 enum-told-8 c = search needs
 
-less-one-requires : tie.Need-less-one-requires
-less-one-requires c κs = search needs
+minus-requires : tie.Need-minus-requires
+minus-requires c κs = search needs
 
 wanting-requires-8 : tie.Need-wanting-requires-8
 wanting-requires-8 c κs = search needs
@@ -114,7 +114,7 @@ returns-7 c =
 returns-8 : tie.Need-returns-8
 returns-8 c =
     let s = c .before .before .before .before in
-    c .wanting8 .ensures ∙ ap (λ n. between false (at operator n)) (c .before .less-one .ensures) ∙ ap (scanAfter (s .args .s .want)
+    c .wanting8 .ensures ∙ ap (λ n. between false (at operator n)) (c .before .minus .ensures) ∙ ap (scanAfter (s .args .s .want)
     (s .args .s .depth)) (sym (c .before .before .enum-told8 .given .1))
 
 returns-9 : tie.Need-returns-9
@@ -147,7 +147,7 @@ after-token-spec =
     add-wanting
     wanting-requires-7
     enum-told-8
-    less-one-requires
+    minus-requires
     wanting-requires-8
     enum-told-9
     wanting-requires-9

@@ -9,8 +9,8 @@ put-begin-requires c κs =
     let s = c .before in
     (room-waits (s .args .stack .now) (s .args .top) (s .args .table .now) (s .args .count) (s .args .word) (s .pre .0) (s .pre .1) .1, s .pre .0 .table-long)
 
-less-one-requires : tie.Need-less-one-requires
-less-one-requires c κs = search needs
+minus-requires : tie.Need-minus-requires
+minus-requires c κs = search needs
 
 push-requires : tie.Need-push-requires
 push-requires c κs =
@@ -22,8 +22,8 @@ returns c =
     let s = c .before .before .before .before .before in
     let put-begin = c .before .before .before .put-begin in
     waits-builds (s .args .stack .now) (s .args .top) (s .args .table .now) (s .args .count) (s .args .word) (s .pre .0) (s .pre .1) (s .args .depth)
-    (c .before .less-one .result) (c .push .last .0) (c .push .result) (put-begin .last .0) (put-begin .result) (put-begin .ensures)
-    (c .before .less-one .ensures) (c .push .ensures .1) (c .push .ensures .2)
+    (c .before .minus .result) (c .push .last .0) (c .push .result) (put-begin .last .0) (put-begin .result) (put-begin .ensures)
+    (c .before .minus .ensures) (c .push .ensures .1) (c .push .ensures .2)
 
 pub wait-spec : {M : Type 1} → statement M
-wait-spec = tie.close (tie.spec put-begin-requires less-one-requires push-requires returns)
+wait-spec = tie.close (tie.spec put-begin-requires minus-requires push-requires returns)
