@@ -1,5 +1,5 @@
 -- What may stand at a place of a text (`specs/Compiled.antt`).
---     Before, before-drop, before-length, front-room, next-room, tried-length, tried-inside     the bytes before the place and then others, in a buffer
+--     Before, before-length, front-room, next-room, tried-length, tried-inside     the bytes before the place and then others, in a buffer
 --     stands-passed, stands-refused                    what question 16 says of them
 --     Begins, stands-begins, begins-stands             just these may stand: some text of the grammar begins so
 -- Assumes nothing.
@@ -9,7 +9,7 @@ use mathlib.Core.Bool.{true}
 use mathlib.Core.List.{List, [], _++_, append-nil, append-assoc}
 use Prim.Native.Nat.{ℕ, suc, _+_, _≤_, _<_}
 use native.Mathlib.Omega.{arith}
-use lib.ListN.{length, take, drop, take-append-drop, drop-of-length-le}
+use lib.ListN.{length, take, drop, take-append-drop}
 use lib.Seq.{length-take-le, take-all}
 use lib.Dec.{leb}
 use borrow.Author.Tests.{leb-true, le-leb}
@@ -37,13 +37,6 @@ before-take text place n b = go (le-or-lt place n)
     go : (place ≤ n) ⊎ (n < place) → take n text ≡ take place text
     go (inl h) = let z : n ≡ place = let l = b .0 in omega arith in ap (λ m. take m text) z
     go (inr h) = let e = b .2 h in take-all n text (omega arith) ∙ sym (take-all place text (omega arith))
-
-pub before-drop : (text : List ℕ) (place n : ℕ) → Before text place n → drop n text ≡ drop place text
-before-drop text place n b = go (le-or-lt place n)
-  where
-    go : (place ≤ n) ⊎ (n < place) → drop n text ≡ drop place text
-    go (inl h) = let z : n ≡ place = let l = b .0 in omega arith in ap (λ m. drop m text) z
-    go (inr h) = let e = b .2 h in drop-of-length-le text {i = n} (omega arith) ∙ sym (drop-of-length-le text {i = place} (omega arith))
 
 module _ (text : List ℕ) (place n : ℕ) (b : Before text place n) where
   pub before-length : n ≡ length (take n text)

@@ -49,8 +49,7 @@ fn is_begun(text: &[u8], start: usize, typed: usize, bytes: &[u8]) -> bool
     if bytes.len() <= typed {
         return false;
     }
-    let from = least(start, text.len());
-    if matching(text, from, bytes) != typed {
+    if matching(text, start, bytes) != typed {
         return false;
     }
     may_stand(text, start, bytes)

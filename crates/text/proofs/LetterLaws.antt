@@ -1,4 +1,5 @@
 -- Letters of a word at a place of a text (`specs/Bytes.antt` of crate grammar).
+--     agreed-beyond                                                                 none beyond the end of the text
 --     Agreed, agreed-start, agreed-next, agreed-other, agreed-short, agreed-end      the loop over them
 -- Assumes nothing.
 use mathlib.Core.Path.{_≡_, refl, sym, ap, ap₂, _∙_}
@@ -14,6 +15,14 @@ use lib.Dec.{eqb}
 use borrow.Author.Tests.{eq-eqb, ne-eqb}
 use Rattle.grammar.specs.Bytes.{agreeing}
 use Rattle.grammar.proofs.StopLaws.{agreeing-first}
+
+agreed-none : (letters : List ℕ) → 0 ≡ agreeing letters []
+unfolding agreeing
+agreed-none [] = refl
+agreed-none (x ∷ xs) = refl
+
+pub agreed-beyond : (letters text : List ℕ) (at : ℕ) → length text < at → 0 ≡ agreeing letters (drop at text)
+agreed-beyond letters text at h = agreed-none letters ∙ ap (agreeing letters) (sym (drop-of-length-le text {i = at} (omega arith)))
 
 -- the first n letters stand at `at`
 pub record Agreed (letters text : List ℕ) (at n : ℕ) : Type 0 where

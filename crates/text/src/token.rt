@@ -95,9 +95,11 @@ pub(crate) fn digits_at(text: &[u8], at: usize) -> Digits
 
 // How many of these letters stand at `at`.
 pub fn matching(text: &[u8], at: usize, letters: &[u8]) -> usize
-    requires { ⌜ at ≤ length (now text) ⌝ }
     ensures { λ r. ⌜ r ≡ agreeing (now (letters .entry)) (drop at (now (text .entry))) ⌝ }
 {
+    if text.len() < at {
+        return 0;
+    }
     let mut n: usize = 0;
     while n < letters.len() {
         if at + n == text.len() {
