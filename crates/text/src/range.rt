@@ -3,7 +3,7 @@ use crate::token::digits_at;
 use crate::token::is_digit;
 use rule::answer::Answer;
 ghost use mathlib.Core.Path.{_≡_};
-ghost use Prim.Native.Nat.{_≤_, _<_};
+ghost use Prim.Native.Nat.{_<_};
 ghost use lib.ListN.{length};
 ghost use Rattle.rule.specs.Answers.{answerOf};
 ghost use Rattle.grammar.specs.Texting.{byteBefore, mostAfter, inRangeAt, question17};

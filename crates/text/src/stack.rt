@@ -1,17 +1,13 @@
 // The words that wait for an operand, in an array: three numbers each, the word's, the node to its left, how many brackets are open.
 use crate::table::AND;
-use crate::table::IMPLIES;
 use crate::table::OR;
 use crate::table::put_end;
 ghost use mathlib.Core.Path.{_≡_};
 ghost use mathlib.Core.List.{_∷_};
-ghost use lib.Dec.{leb};
-ghost use lib.ListN.{length, take};
+ghost use lib.ListN.{length};
 ghost use Prim.Native.Nat.{_+_, _≤_, _<_};
-ghost use Rattle.spec.specs.Rule.{form32};
-ghost use Rattle.grammar.specs.Reading.{levelOf, rank, unwound};
-ghost use Rattle.text.specs.Building.{words};
-ghost use Rattle.text.specs.Stacks.{waitingOf, entryOf, stackOf, builtOf, endsTop, Fitting, Unwinds};
+ghost use Rattle.grammar.specs.Reading.{levelOf, rank};
+ghost use Rattle.text.specs.Stacks.{waitingOf, entryOf, stackOf, endsTop, Fitting, Unwinds};
 
 // How many words wait, and how many nodes are in the table.
 pub struct Height {

@@ -1,9 +1,9 @@
 // The tokens of a text, and what they are read from: digits and letters.
 ghost use mathlib.Core.Path.{_≡_};
-ghost use mathlib.Core.Bool.{true, false, _&&_};
+ghost use mathlib.Core.Bool.{_&&_};
 ghost use Prim.Native.Nat.{_+_, _-_, _≤_, _<_};
 ghost use lib.Dec.{leb};
-ghost use lib.ListN.{length, getD, drop};
+ghost use lib.ListN.{length, drop};
 ghost use Rattle.grammar.specs.Grammar.{isDigit};
 ghost use Rattle.grammar.specs.Bytes.{leadingFrom, digitsIn, agreeing};
 ghost use Rattle.text.specs.Tokens.{capped, wordAt};
