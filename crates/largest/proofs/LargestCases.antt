@@ -1,0 +1,40 @@
+-- Cases of request 2026-05 by computation, and its promise for document 01's stored form.
+--     unreached, tone-found, nothing-known     a line nothing leads to; the instructions of the woven tone script; question 19
+--     finding32
+-- Assumes nothing.
+use mathlib.Core.Path.{_≡_, refl}
+use mathlib.Core.List.{List, [], _∷_}
+use Prim.Native.Nat.{ℕ}
+use Rattle.spec.specs.Questions.{passed, refused}
+use Rattle.spec.specs.Rule.{form32}
+use Rattle.largest.specs.Notes.{startNotes}
+use Rattle.largest.specs.Largest.{ones, factsIn, countFacts, stored, _∩_, annotate, narrow, narrowTo, push, sweep, countIn, settle, search, checkInstructions, foundLines, question19, checkFound, foundCount}
+use Rattle.largest.specs.Found.{Found}
+use Rattle.spec.proofs.StoredLaws.{good32}
+use Rattle.spec.proofs.Compute.{everything}
+use Rattle.spec.proofs.Cases.{sinceRule}
+use Rattle.largest.proofs.LargestPromise.{finding}
+
+-- rule `false`, script halt, present, halt: lines nothing leads to have every fact that belongs, T and F at once
+pub unreached : foundCount form32 (0 ∷ []) (0 ∷ 0x80000000 ∷ 0 ∷ []) ≡ 4
+unfolding everything ones factsIn countFacts startNotes stored _∩_ annotate narrow narrowTo push sweep countIn settle search foundLines foundCount
+unreached = refl
+
+-- the instructions of the woven tone script of document 01
+abbrev toneCode : List ℕ
+toneCode =
+    0x41000000 ∷ 0x42000000 ∷ 0x52000408 ∷ 0x70000004 ∷ 0xa0000806 ∷ 0x7000000a ∷ 0x51000408 ∷ 0x7000000a ∷ 0x91000800 ∷ 0x7000000b
+    ∷ 0x90000800 ∷ 0xb000080d ∷ 0x7000000f ∷ 0x80000000 ∷ 0xc0000800 ∷ 0x70000000 ∷ []
+
+pub tone-found : (foundCount form32 sinceRule toneCode ≡ 38) × (checkFound form32 sinceRule toneCode ≡ passed tt)
+unfolding everything ones factsIn countFacts startNotes stored _∩_ annotate narrow narrowTo push sweep countIn settle search checkInstructions foundLines question19 checkFound foundCount
+tone-found = (refl, refl)
+
+-- a present that nothing is known before
+pub nothing-known : checkFound form32 sinceRule (0x41000000 ∷ 0x80000000 ∷ 0 ∷ []) ≡ refused 19 1
+unfolding everything ones factsIn countFacts startNotes stored _∩_ annotate narrow narrowTo push sweep countIn settle search checkInstructions foundLines question19 checkFound foundCount
+nothing-known = refl
+
+-- document 01's stored form
+pub finding32 : (rule instructions : List ℕ) → Found form32 rule instructions
+finding32 = finding form32 good32

@@ -1,0 +1,3 @@
+pub mod Notes
+pub mod Largest
+pub mod Found
