@@ -22,7 +22,7 @@ use Rattle.spec.proofs.RuleLaws.{InOrder, length-table, rule-out}
 use Rattle.spec.proofs.WeaverLaws.{pasts-count, length-decide, length-update, length-updates, length-keeps}
 use Rattle.layout.specs.Layout.{tableIn}
 use Rattle.weaver.specs.Laid.{Deciding, Updating, Updatable, Guarding, Blocking}
-use Rattle.weaver.specs.Written.{written}
+use Rattle.output.specs.Written.{written}
 use Rattle.weaver.specs.Parts.{presentLines, guardLines}
 use Rattle.weaver.proofs.SeriesLaws.{Series, Filled, filled-room, filled-part}
 

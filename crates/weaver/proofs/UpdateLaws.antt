@@ -24,10 +24,10 @@ use Rattle.spec.proofs.RuleLaws.{InOrder, both-lower, one-lower, rule-out}
 use Rattle.spec.proofs.WeaverLaws.{length-decide, length-setting}
 use Rattle.rule.proofs.NodeLaws.{node-at, kind-4, kind-5}
 use Rattle.layout.specs.Layout.{tableIn}
-use Rattle.weaver.specs.Written.{storedLine, over, written}
+use Rattle.output.specs.Written.{storedLine, over, written}
 use Rattle.weaver.specs.Parts.{leftLines, sinceEnd}
 use Rattle.weaver.specs.Laid.{Deciding, Updating, Ending, leftIn, rightIn}
-use Rattle.weaver.proofs.OverLaws.{words-append, stored-line}
+use Rattle.output.proofs.OverLaws.{words-append, stored-line}
 use Rattle.weaver.proofs.DecisionLaws.{size-some}
 
 pub one-line : (w : ℕ) (i : Instruction) (F G : Facts) (o : List ℕ) → w ≡ wordFor i → G ≡ F → over (storedLine w G) o ≡ written (line i F ∷ []) o

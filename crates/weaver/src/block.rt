@@ -1,7 +1,7 @@
 // The block that decides the rule before a present.
 use crate::decision::put_decision;
 use crate::line::code;
-use crate::line::put_line;
+use output::put_line;
 use crate::update::put_update;
 use checker::facts::Facts;
 use checker::facts::learn_value;
@@ -19,7 +19,7 @@ ghost use Rattle.spec.specs.Facts.{keptIsPrior, workIsNext, workIsPrior, _∪_,
 ghost use Rattle.spec.specs.Weaver.{line, updatesSize, updates, keeps, blockSize, block};
 ghost use Rattle.sets.specs.Sets.{setOf, capacity};
 ghost use Rattle.checker.specs.FactSets.{factsOf};
-ghost use Rattle.weaver.specs.Written.{written};
+ghost use Rattle.output.specs.Written.{written};
 ghost use Rattle.weaver.specs.Parts.{pastNodes, presentLines, guardLines};
 ghost use Rattle.layout.specs.Layout.{tableIn};
 ghost use Rattle.weaver.specs.Laid.{Updatable, Guarding, Blocking};

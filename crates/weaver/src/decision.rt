@@ -1,6 +1,6 @@
 // Deciding a node towards two places.
 use crate::line::code;
-use crate::line::put_line;
+use output::put_line;
 use crate::line::put_two;
 use checker::facts::Facts;
 use checker::facts::learn_value;
@@ -16,7 +16,7 @@ ghost use Rattle.spec.specs.Check.{lineLength};
 ghost use Rattle.spec.specs.Weaver.{sizeFrom, Decision, decideFrom, decide};
 ghost use Rattle.sets.specs.Sets.{capacity};
 ghost use Rattle.checker.specs.FactSets.{factsOf};
-ghost use Rattle.weaver.specs.Written.{storedLine, over, written};
+ghost use Rattle.output.specs.Written.{storedLine, over, written};
 ghost use Rattle.layout.specs.Layout.{tableIn};
 ghost use Rattle.weaver.specs.Laid.{Deciding};
 

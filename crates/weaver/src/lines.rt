@@ -1,7 +1,7 @@
 // A bare script, line after line.
 use crate::block::noted;
 use crate::block::put_block;
-use crate::line::put_line;
+use output::put_line;
 use checker::closing::belonging;
 use layout::mark_starts;
 use layout::measure_nodes;
@@ -16,7 +16,7 @@ ghost use Rattle.spec.specs.Script.{bareCode, instructionAt};
 ghost use Rattle.spec.specs.Weaver as spec;
 ghost use Rattle.spec.specs.Weaver.{blockSize, lineSize, startOf, weaveLine, wovenCount, checkWeaving};
 ghost use Rattle.layout.specs.Layout.{tableIn};
-ghost use Rattle.weaver.specs.Written.{written};
+ghost use Rattle.output.specs.Written.{written};
 ghost use Rattle.weaver.specs.Laid.{Weaving};
 
 // Bare line l, which starts at `place`. Hands back how many lines it becomes.

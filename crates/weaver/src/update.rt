@@ -1,7 +1,7 @@
 // A past node's code: its next prior becomes its work bit.
 use crate::decision::put_decision;
 use crate::line::code;
-use crate::line::put_line;
+use output::put_line;
 use crate::line::put_two;
 use crate::line::with_work;
 use checker::facts::Facts;
@@ -14,7 +14,7 @@ ghost use Rattle.spec.specs.Rule.{field, nodeAt};
 ghost use Rattle.spec.specs.Weaver.{setting, update, updateSize};
 ghost use Rattle.sets.specs.Sets.{capacity};
 ghost use Rattle.checker.specs.FactSets.{factsOf};
-ghost use Rattle.weaver.specs.Written.{written};
+ghost use Rattle.output.specs.Written.{written};
 ghost use Rattle.layout.specs.Layout.{tableIn};
 ghost use Rattle.weaver.specs.Laid.{leftIn, rightIn, Deciding, Updating, Ending};
 ghost use Rattle.weaver.specs.Parts.{leftLines, sinceEnd};

@@ -10,9 +10,9 @@ use Rattle.layout.specs.Layout.{tableIn}
 use Rattle.checker.specs.FactSets.{factsOf}
 use Rattle.weaver.proofs.BlockLaws.{block-updatable, block-few, block-room, block-guarding, guard-length, updates-length, block-fits, block-code}
 use Rattle.weaver.proofs.NotedLaws.{done-noted, all-below}
-use Rattle.weaver.proofs.OverLaws.{written-then, part-of}
+use Rattle.output.proofs.OverLaws.{written-then, part-of}
 use Rattle.weaver.specs.Parts.{guardLines}
-use Rattle.weaver.specs.Written.{written}
+use Rattle.output.specs.Written.{written}
 use borrow.Author.Needs.{needs}
 use Rattle.weaver.proofs.block.put_block.Statement.{statement}
 use Rattle.weaver.proofs.block.put_block.Tie as tie

@@ -9,9 +9,9 @@ use Rattle.spec.specs.Questions.{count}
 use Rattle.layout.specs.Layout.{tableIn}
 use Rattle.checker.specs.FactSets.{factsOf}
 use Rattle.weaver.proofs.BlockLaws.{guard-few, guard-size, guard-last, guard-lengths, guard-code}
-use Rattle.weaver.proofs.OverLaws.{written-then, part-of}
+use Rattle.output.proofs.OverLaws.{written-then, part-of}
 use Rattle.weaver.specs.Parts.{presentLines}
-use Rattle.weaver.specs.Written.{written}
+use Rattle.output.specs.Written.{written}
 use borrow.Author.Needs.{needs}
 use Rattle.weaver.proofs.block.put_guard.Statement.{statement}
 use Rattle.weaver.proofs.block.put_guard.Tie as tie

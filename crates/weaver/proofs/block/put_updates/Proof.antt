@@ -15,7 +15,7 @@ use Rattle.checker.specs.FactSets.{factsOf}
 use Rattle.weaver.proofs.BlockLaws.{updatingSeries, updatable-room, updating-few, updating-node, updating-size, updating-code}
 use Rattle.weaver.proofs.SeriesLaws.{Filled, filled-start, filled-room, filled-next, filled-end}
 use Rattle.weaver.proofs.NotedLaws.{done-noted}
-use Rattle.weaver.proofs.OverLaws.{part-length}
+use Rattle.output.proofs.OverLaws.{part-length}
 use Rattle.weaver.specs.Parts.{pastNodes}
 use borrow.Author.Needs.{needs}
 use Rattle.weaver.proofs.block.put_updates.Statement.{statement}

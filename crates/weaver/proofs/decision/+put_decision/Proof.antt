@@ -12,8 +12,8 @@ use Rattle.layout.specs.Layout.{tableIn}
 use Rattle.checker.specs.FactSets.{factsOf}
 use Rattle.weaver.proofs.DecisionLaws.{falls-to, order, lower, left-size, implies-size, implies-left, implies-right, implies-code, simple-room, simple-code, few}
 use Rattle.weaver.proofs.GrowthLaws.{add-first}
-use Rattle.weaver.proofs.OverLaws.{written-then, part-of}
-use Rattle.weaver.specs.Written.{written}
+use Rattle.output.proofs.OverLaws.{written-then, part-of}
+use Rattle.output.specs.Written.{written}
 use borrow.Author.Needs.{needs}
 use borrow.Fn.Kinds.{In}
 use borrow.Fn.PlainCycle.{Measures, is, falls, and}

@@ -1,4 +1,4 @@
--- `weaver::lines::put_lines` meets its contract. The loop keeps: the lines of the first l bare lines are written (`SeriesLaws.Filled`).
+-- `weaver::output::put_lines` meets its contract. The loop keeps: the lines of the first l bare lines are written (`SeriesLaws.Filled`).
 -- Assumes nothing.
 use mathlib.Core.Path.{sym, ap, _∙_}
 use Prim.Native.Nat.{_-_, _*_, _≤_}
@@ -10,8 +10,8 @@ use Rattle.layout.proofs.StartLaws.{length-bare}
 use Rattle.layout.specs.Layout.{tableIn}
 use Rattle.weaver.proofs.LinesLaws.{weaveUpTo, weavingSeries, up-to-all, order, all-room, woven-few, woven-start, woven-room, woven-more, woven-size}
 use Rattle.weaver.proofs.SeriesLaws.{Filled, filled-start, filled-next, filled-end}
-use Rattle.weaver.proofs.OverLaws.{part-length}
-use Rattle.weaver.specs.Written.{written}
+use Rattle.output.proofs.OverLaws.{part-length}
+use Rattle.output.specs.Written.{written}
 use borrow.Author.Needs.{needs}
 use Rattle.weaver.proofs.lines.put_lines.Statement.{statement}
 use Rattle.weaver.proofs.lines.put_lines.Tie as tie

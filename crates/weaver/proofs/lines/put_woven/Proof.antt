@@ -8,7 +8,7 @@ use Rattle.layout.specs.Layout.{tableIn}
 use Rattle.weaver.proofs.LinesLaws.{present-line, other-line, woven-block, woven-line}
 use Rattle.weaver.proofs.NotedLaws.{bare-noted}
 use Rattle.weaver.proofs.UpdateLaws.{one-line}
-use Rattle.weaver.specs.Written.{written}
+use Rattle.output.specs.Written.{written}
 use borrow.Author.Needs.{needs}
 use Rattle.weaver.proofs.lines.put_woven.Statement.{statement}
 use Rattle.weaver.proofs.lines.put_woven.Tie as tie

@@ -13,10 +13,10 @@ use Rattle.spec.specs.Facts.{priorIs, _∪_, one}
 use Rattle.spec.specs.Script.{wordFor, fieldsFor, branch, ifKept, goto}
 use Rattle.layout.specs.Layout.{tableIn}
 use Rattle.checker.specs.FactSets.{factsOf}
-use Rattle.weaver.specs.Written.{written}
+use Rattle.output.specs.Written.{written}
 use Rattle.weaver.proofs.UpdateLaws.{two-lines, deciding-in, deciding-some}
 use Rattle.weaver.proofs.GrowthLaws.{add-first, add-second}
-use Rattle.weaver.proofs.OverLaws.{written-then, part-of}
+use Rattle.output.proofs.OverLaws.{written-then, part-of}
 use Rattle.weaver.specs.Parts.{leftLines}
 use borrow.Author.Needs.{needs}
 use Rattle.weaver.proofs.update.put_left.Statement.{statement}

@@ -10,10 +10,10 @@ use Rattle.spec.specs.Rule.{form32}
 use Rattle.layout.specs.Layout.{tableIn}
 use Rattle.checker.specs.FactSets.{factsOf}
 use Rattle.weaver.proofs.UpdateLaws.{since-size, left-size, right-size, since-right, since-end, since-code, length-end}
-use Rattle.weaver.proofs.OverLaws.{written-then, part-of}
+use Rattle.output.proofs.OverLaws.{written-then, part-of}
 use Rattle.weaver.specs.Parts.{sinceEnd}
 use Rattle.weaver.specs.Laid.{leftIn, rightIn}
-use Rattle.weaver.specs.Written.{written}
+use Rattle.output.specs.Written.{written}
 use borrow.Author.Needs.{needs}
 use Rattle.weaver.proofs.update.put_since.Statement.{statement}
 use Rattle.weaver.proofs.update.put_since.Tie as tie

@@ -14,10 +14,10 @@ use Rattle.layout.specs.Layout.{tableIn}
 use Rattle.checker.specs.FactSets.{factsOf}
 use Rattle.weaver.proofs.UpdateLaws.{end-few, end-size, end-left, length-left}
 use Rattle.weaver.proofs.GrowthLaws.{add-second}
-use Rattle.weaver.proofs.OverLaws.{written-then, part-of}
+use Rattle.output.proofs.OverLaws.{written-then, part-of}
 use Rattle.weaver.specs.Parts.{leftLines, sinceEnd}
 use Rattle.weaver.specs.Laid.{leftIn, rightIn}
-use Rattle.weaver.specs.Written.{written}
+use Rattle.output.specs.Written.{written}
 use borrow.Author.Needs.{needs}
 use Rattle.weaver.proofs.update.put_since_end.Statement.{statement}
 use Rattle.weaver.proofs.update.put_since_end.Tie as tie

@@ -11,9 +11,9 @@ use Rattle.spec.specs.Rule.{form32}
 use Rattle.layout.specs.Layout.{tableIn}
 use Rattle.checker.specs.FactSets.{factsOf}
 use Rattle.weaver.proofs.UpdateLaws.{node-few, weak-lower, weak-left-size, weak-size, weak-left, weak-code}
-use Rattle.weaver.proofs.OverLaws.{written-then, part-of}
+use Rattle.output.proofs.OverLaws.{written-then, part-of}
 use Rattle.weaver.specs.Laid.{leftIn}
-use Rattle.weaver.specs.Written.{written}
+use Rattle.output.specs.Written.{written}
 use borrow.Author.Needs.{needs}
 use Rattle.weaver.proofs.update.put_weak_previous.Statement.{statement}
 use Rattle.weaver.proofs.update.put_weak_previous.Tie as tie
