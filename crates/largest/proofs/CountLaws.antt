@@ -14,11 +14,12 @@ use native.Mathlib.Omega.{arith}
 use lib.Count as bits
 use lib.Count.{ones-cat}
 use lib.ListN.{length, take, drop}
+use Rattle.spec.specs.Questions.{countBelow}
 use Rattle.spec.specs.Rule.{Form}
 use Rattle.spec.specs.Facts.{Fact, Facts, _⊑_, valueIs, priorIs, keptIsPrior, workIsNext, workIsPrior}
 use Rattle.spec.specs.Check.{Line, Lines, factWord, lineWords, wordsOf}
 use Rattle.largest.specs.Notes.{Notes, notesOf}
-use Rattle.largest.specs.Largest.{ones, factsIn, countFacts}
+use Rattle.largest.specs.Largest.{factsIn, countFacts}
 use Rattle.largest.specs.Found.{onesOf, onesOver}
 use Rattle.spec.proofs.BoolLaws.{decided, le-or-lt}
 use Rattle.spec.proofs.StoredLaws.{word-small, rest-words}
@@ -35,14 +36,14 @@ pub one-most : (a : Bool) → (cond a 1 0) ≤ 1
 one-most true = omega arith
 one-most false = omega arith
 
-pub ones-mono : (n : ℕ) (p q : ℕ → Bool) → ((k : ℕ) → k < n → p k ≡ true → q k ≡ true) → ones n p ≤ ones n q
-unfolding ones
+pub ones-mono : (n : ℕ) (p q : ℕ → Bool) → ((k : ℕ) → k < n → p k ≡ true → q k ≡ true) → countBelow n p ≤ countBelow n q
+unfolding countBelow
 ones-mono zero p q h = omega arith
 ones-mono (suc n) p q h = omega (arith, ones-mono n p q (λ k l. h k (omega arith)), one-mono (p n) (q n) (h n (omega arith)))
 
 -- one less is fewer
-pub ones-fewer : (n : ℕ) (p q : ℕ → Bool) → ((k : ℕ) → k < n → p k ≡ true → q k ≡ true) → (k : ℕ) → k < n → p k ≡ false → q k ≡ true → ones n p < ones n q
-unfolding ones
+pub ones-fewer : (n : ℕ) (p q : ℕ → Bool) → ((k : ℕ) → k < n → p k ≡ true → q k ≡ true) → (k : ℕ) → k < n → p k ≡ false → q k ≡ true → countBelow n p < countBelow n q
+unfolding countBelow
 ones-fewer zero p q h k l a b = absurd (omega arith)
 ones-fewer (suc n) p q h k l a b =
     elim (le-or-lt n k) [
@@ -52,8 +53,8 @@ ones-fewer (suc n) p q h k l a b =
       | inr u ↦ omega (arith, ones-fewer n p q (λ j i. h j (omega arith)) k u a b, one-mono (p n) (q n) (h n (omega arith)))
     ]
 
-pub ones-most : (n : ℕ) (p : ℕ → Bool) → ones n p ≤ n
-unfolding ones
+pub ones-most : (n : ℕ) (p : ℕ → Bool) → countBelow n p ≤ n
+unfolding countBelow
 ones-most zero p = omega arith
 ones-most (suc n) p = omega (arith, ones-most n p, one-most (p n))
 
@@ -61,17 +62,17 @@ module _ (width : ℕ) where
   facts-mono : (F G : Facts) → F ⊑ G → factsIn width F ≤ factsIn width G
   unfolding factsIn
   facts-mono F G h =
-      let of : (f : Fact) → ones width (F f) ≤ ones width (G f) = λ f. ones-mono width (F f) (G f) (λ k l. h f k) in
+      let of : (f : Fact) → countBelow width (F f) ≤ countBelow width (G f) = λ f. ones-mono width (F f) (G f) (λ k l. h f k) in
       omega (arith, of (valueIs true), of (valueIs false), of (priorIs true), of (priorIs false), of keptIsPrior, of workIsNext, of workIsPrior)
 
   facts-fewer : (F G : Facts) → F ⊑ G → (f : Fact) (k : ℕ) → k < width → F f k ≡ false → G f k ≡ true → factsIn width F < factsIn width G
   unfolding factsIn
   facts-fewer F G h f k l a b = go f (ones-fewer width (F f) (G f) (λ j i. h f j) k l a b)
     where
-      of : (g : Fact) → ones width (F g) ≤ ones width (G g)
+      of : (g : Fact) → countBelow width (F g) ≤ countBelow width (G g)
       of g = ones-mono width (F g) (G g) (λ j i. h g j)
 
-      go : (g : Fact) → ones width (F g) < ones width (G g) → factsIn width F < factsIn width G
+      go : (g : Fact) → countBelow width (F g) < countBelow width (G g) → factsIn width F < factsIn width G
       go (valueIs true) d = omega (arith, of (valueIs false), of (priorIs true), of (priorIs false), of keptIsPrior, of workIsNext, of workIsPrior)
       go (valueIs false) d = omega (arith, of (valueIs true), of (priorIs true), of (priorIs false), of keptIsPrior, of workIsNext, of workIsPrior)
       go (priorIs true) d = omega (arith, of (valueIs true), of (valueIs false), of (priorIs false), of keptIsPrior, of workIsNext, of workIsPrior)
@@ -83,7 +84,7 @@ module _ (width : ℕ) where
   pub facts-most : (F : Facts) → factsIn width F ≤ 7 * width
   unfolding factsIn
   facts-most F =
-      let of : (f : Fact) → ones width (F f) ≤ width = λ f. ones-most width (F f) in
+      let of : (f : Fact) → countBelow width (F f) ≤ width = λ f. ones-most width (F f) in
       omega (arith, of (valueIs true), of (valueIs false), of (priorIs true), of (priorIs false), of keptIsPrior, of workIsNext, of workIsPrior)
 
   pub count-mono : (n : ℕ) (N N′ : Notes) → ((l : ℕ) → l < n → N l ⊑ N′ l) → countFacts width n N ≤ countFacts width n N′
@@ -119,14 +120,14 @@ module _ (width : ℕ) where
 
 -- ---- nodes past the last have no facts to count
 
-ones-narrow : (n m : ℕ) (p : ℕ → Bool) → n ≤ m → ((k : ℕ) → p k ≡ true → k < n) → ones m p ≡ ones n p
-unfolding ones
+ones-narrow : (n m : ℕ) (p : ℕ → Bool) → n ≤ m → ((k : ℕ) → p k ≡ true → k < n) → countBelow m p ≡ countBelow n p
+unfolding countBelow
 ones-narrow n zero p h few = let z : n ≡ 0 = omega arith in rw z
 ones-narrow n (suc m) p h few =
     elim (le-or-lt n m) [
       | inl u ↦ elim (decided (p m)) [
         | inl a ↦ let v : m < n = few m a in absurd (omega arith)
-        | inr a ↦ let e = ones-narrow n m p u few in rw (a, e) (let z : ones n p + 0 ≡ ones n p = omega arith in z)
+        | inr a ↦ let e = ones-narrow n m p u few in rw (a, e) (let z : countBelow n p + 0 ≡ countBelow n p = omega arith in z)
       ]
       | inr u ↦ let z : n ≡ suc m = omega arith in rw z
     ]
@@ -134,7 +135,7 @@ ones-narrow n (suc m) p h few =
 facts-narrow : (n m : ℕ) (F : Facts) → n ≤ m → ((f : Fact) (k : ℕ) → F f k ≡ true → k < n) → factsIn m F ≡ factsIn n F
 unfolding factsIn
 facts-narrow n m F h few =
-    let of : (f : Fact) → ones m (F f) ≡ ones n (F f) = λ f. ones-narrow n m (F f) h (few f) in
+    let of : (f : Fact) → countBelow m (F f) ≡ countBelow n (F f) = λ f. ones-narrow n m (F f) h (few f) in
     omega (arith, of (valueIs true), of (valueIs false), of (priorIs true), of (priorIs false), of keptIsPrior, of workIsNext, of workIsPrior)
 
 pub count-narrow : (n m lines : ℕ) (N : Notes) → n ≤ m → ((l : ℕ) → l < lines → (f : Fact) (k : ℕ) → N l f k ≡ true → k < n)
@@ -146,13 +147,13 @@ count-narrow n m (suc lines) N h few =
 
 -- ---- the ones of the words
 
-ones-same : (n : ℕ) (p q : ℕ → Bool) → ((k : ℕ) → p k ≡ q k) → ones n p ≡ ones n q
-unfolding ones
+ones-same : (n : ℕ) (p q : ℕ → Bool) → ((k : ℕ) → p k ≡ q k) → countBelow n p ≡ countBelow n q
+unfolding countBelow
 ones-same zero p q h = refl
 ones-same (suc n) p q h = ap₂ (λ x b. x + cond b 1 0) (ones-same n p q h) (h n)
 
-ones-front : (n : ℕ) (p : ℕ → Bool) → ones (suc n) p ≡ cond (p 0) 1 0 + ones n (λ k. p (suc k))
-unfolding ones
+ones-front : (n : ℕ) (p : ℕ → Bool) → countBelow (suc n) p ≡ cond (p 0) 1 0 + countBelow n (λ k. p (suc k))
+unfolding countBelow
 ones-front zero p = omega arith
 ones-front (suc n) p = let e = ones-front n p in omega arith
 
@@ -170,23 +171,23 @@ top-bit n w true = omega arith
 top-bit n w false = omega arith
 
 -- a fact word has a one for each node
-word-ones : (n i : ℕ) (p : ℕ → Bool) → bits.ones (factWord n i p) ≡ ones n (λ k. p (i + k))
-unfolding factWord ones
+word-ones : (n i : ℕ) (p : ℕ → Bool) → bits.ones (factWord n i p) ≡ countBelow n (λ k. p (i + k))
+unfolding factWord countBelow
 word-ones zero i p = none-set
 word-ones (suc n) i p =
     ap bits.ones (top-bit n (factWord n (suc i) p) (p i)) ∙ ones-cat n (cond (p i) 1 0) (factWord n (suc i) p) (word-small n (suc i) p)
     ∙ ap₂ _+_ (one-set (p i)) (word-ones n (suc i) p ∙ ones-same n (λ k. p (suc i + k)) (λ k. p (i + suc k)) (λ k. ap p (let z : suc i + k ≡ i + suc k = omega arith in z)))
-    ∙ ap (λ j. cond (p j) 1 0 + ones n (λ k. p (i + suc k))) (let z : i ≡ i + 0 = omega arith in z)
+    ∙ ap (λ j. cond (p j) 1 0 + countBelow n (λ k. p (i + suc k))) (let z : i ≡ i + 0 = omega arith in z)
     ∙ sym (ones-front n (λ k. p (i + k)))
 
-set-ones : (width : ℕ) (p : ℕ → Bool) → bits.ones (factWord width 0 p) ≡ ones width p
+set-ones : (width : ℕ) (p : ℕ → Bool) → bits.ones (factWord width 0 p) ≡ countBelow width p
 set-ones width p = word-ones width 0 p ∙ ones-same width (λ k. p (0 + k)) p (λ k. ap p (let z : 0 + k ≡ k = omega arith in z))
 
 -- the seven words of a line
 line-ones : (form : Form) (x : Line) (rest : List ℕ) → onesOf (take 7 (drop 1 (lineWords form x ++ rest))) ≡ factsIn (form .width) (x .annotation)
 unfolding lineWords onesOf factsIn
 line-ones form x rest =
-    let of : (f : Fact) → bits.ones (factWord (form .width) 0 (x .annotation f)) ≡ ones (form .width) (x .annotation f) = λ f. set-ones (form .width) (x .annotation f) in
+    let of : (f : Fact) → bits.ones (factWord (form .width) 0 (x .annotation f)) ≡ countBelow (form .width) (x .annotation f) = λ f. set-ones (form .width) (x .annotation f) in
     omega (arith, of (valueIs true), of (valueIs false), of (priorIs true), of (priorIs false), of keptIsPrior, of workIsNext, of workIsPrior)
 
 count-front : (width n : ℕ) (N : Notes) → countFacts width (suc n) N ≡ factsIn width (N 0) + countFacts width n (λ l. N (suc l))

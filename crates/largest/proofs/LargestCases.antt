@@ -8,7 +8,7 @@ use Prim.Native.Nat.{ℕ}
 use Rattle.spec.specs.Questions.{passed, refused}
 use Rattle.spec.specs.Rule.{form32}
 use Rattle.largest.specs.Notes.{startNotes}
-use Rattle.largest.specs.Largest.{ones, factsIn, countFacts, stored, _∩_, annotate, narrow, narrowTo, push, sweep, countIn, settle, search, checkInstructions, foundLines, question19, checkFound, foundCount}
+use Rattle.largest.specs.Largest.{factsIn, countFacts, stored, _∩_, annotate, narrow, narrowTo, push, sweep, countIn, settle, search, checkInstructions, foundLines, question19, checkFound, foundCount}
 use Rattle.largest.specs.Found.{Found}
 use Rattle.spec.proofs.StoredLaws.{good32}
 use Rattle.spec.proofs.Compute.{everything}
@@ -17,7 +17,7 @@ use Rattle.largest.proofs.LargestPromise.{finding}
 
 -- rule `false`, script halt, present, halt: lines nothing leads to have every fact that belongs, T and F at once
 pub unreached : foundCount form32 (0 ∷ []) (0 ∷ 0x80000000 ∷ 0 ∷ []) ≡ 4
-unfolding everything ones factsIn countFacts startNotes stored _∩_ annotate narrow narrowTo push sweep countIn settle search foundLines foundCount
+unfolding everything factsIn countFacts startNotes stored _∩_ annotate narrow narrowTo push sweep countIn settle search foundLines foundCount
 unreached = refl
 
 -- the instructions of the woven tone script of document 01
@@ -27,12 +27,12 @@ toneCode =
     ∷ 0x90000800 ∷ 0xb000080d ∷ 0x7000000f ∷ 0x80000000 ∷ 0xc0000800 ∷ 0x70000000 ∷ []
 
 pub tone-found : (foundCount form32 sinceRule toneCode ≡ 38) × (checkFound form32 sinceRule toneCode ≡ passed tt)
-unfolding everything ones factsIn countFacts startNotes stored _∩_ annotate narrow narrowTo push sweep countIn settle search checkInstructions foundLines question19 checkFound foundCount
+unfolding everything factsIn countFacts startNotes stored _∩_ annotate narrow narrowTo push sweep countIn settle search checkInstructions foundLines question19 checkFound foundCount
 tone-found = (refl, refl)
 
 -- a present that nothing is known before
 pub nothing-known : checkFound form32 sinceRule (0x41000000 ∷ 0x80000000 ∷ 0 ∷ []) ≡ refused 19 1
-unfolding everything ones factsIn countFacts startNotes stored _∩_ annotate narrow narrowTo push sweep countIn settle search checkInstructions foundLines question19 checkFound foundCount
+unfolding everything factsIn countFacts startNotes stored _∩_ annotate narrow narrowTo push sweep countIn settle search checkInstructions foundLines question19 checkFound foundCount
 nothing-known = refl
 
 -- document 01's stored form

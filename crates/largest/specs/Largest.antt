@@ -3,13 +3,13 @@
 --     checkInstructions, question19, checkFound               questions 1 to 7; then 19
 --     foundWords, foundCount, foundAnswer, foundOutput        what is written and answered, with 13 after 19
 -- What is promised of them is in `specs/Found.antt`.
-use mathlib.Core.Bool.{Bool, true, false, cond, _&&_}
+use mathlib.Core.Bool.{Bool, true, false, _&&_}
 use mathlib.Core.Option.{Option, none, some}
 use mathlib.Core.List.{List, [], _∷_, map}
 use Prim.Native.Nat.{ℕ, zero, suc, _+_, _*_}
 use lib.ListN.{length}
 use lib.Dec.{eqb, leb}
-use Rattle.spec.specs.Questions.{Answer, passed, Checked, _then_, ask, askOnce}
+use Rattle.spec.specs.Questions.{countBelow, Answer, passed, Checked, _then_, ask, askOnce}
 use Rattle.spec.specs.Rule.{Form, Table, tableOf, checkRule}
 use Rattle.spec.specs.Script.{Code, bareStored, bareCode, annotatedOpcode, checkCode}
 use Rattle.spec.specs.Facts.{valueIs, priorIs, keptIsPrior, workIsNext, workIsPrior, everyFact, Facts}
@@ -19,16 +19,11 @@ use Rattle.largest.specs.Notes.{Notes, notesOf, followerOf, startNotes}
 
 -- ---- how many facts, counted over the seven words of each line
 
--- how many of the numbers below n pass
-unfoldable pub ones : ℕ → (ℕ → Bool) → ℕ
-ones zero p = 0
-ones (suc n) p = ones n p + cond (p n) 1 0
-
 -- the facts of one line
 unfoldable pub factsIn : (width : ℕ) → Facts → ℕ
 factsIn width F =
-    ones width (F (valueIs true)) + ones width (F (valueIs false)) + ones width (F (priorIs true)) + ones width (F (priorIs false))
-    + ones width (F keptIsPrior) + ones width (F workIsNext) + ones width (F workIsPrior)
+    countBelow width (F (valueIs true)) + countBelow width (F (valueIs false)) + countBelow width (F (priorIs true)) + countBelow width (F (priorIs false))
+    + countBelow width (F keptIsPrior) + countBelow width (F workIsNext) + countBelow width (F workIsPrior)
 
 -- of n lines
 unfoldable pub countFacts : (width n : ℕ) → Notes → ℕ
