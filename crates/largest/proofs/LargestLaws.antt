@@ -1,5 +1,6 @@
 -- The mathematics of the search for the largest notes (`specs/Largest.antt`), on plain notes: no matter how a program stores them.
 --     close-belongs       closing adds only facts that belong
+--     start-closed        what the search starts from is closed
 --     Cut                 one step of a search (its invariant, `Around`, is in specs/): the notes of one line cut down to a set, the others as they were
 --     around-start, around-same, around-cut-to, around-cut    the invariant at the start; kept by a cut to what a line leading there passes on
 --     Swept               a sweep's invariant: what line l < j passed on at the sweep's start holds the notes of its followers
@@ -67,6 +68,12 @@ module _ (t : Table) (ordered : InOrder t) where
       (only-in keptIsPrior _ (belongs t) (λ k e. e))
       (only-in (priorIs true) _ (belongs t) (λ k e. weak-past (nodeAt t k) e)))
       (only-in (priorIs false) _ (belongs t) (λ k e. since-past (nodeAt t k) e)))
+
+  -- what the search starts from is closed
+  pub start-closed : (l : ℕ) → close t (startNotes t l) ⊑ startNotes t l
+  unfolding startNotes firstFacts
+  start-closed zero = close-into t ordered (startNotes t 0) _ (λ f k e. e)
+  start-closed (suc l) = close-belongs (belongs t) (λ f k e. e)
 
 -- ---- the search
 

@@ -1,10 +1,10 @@
 // The block that decides the rule before a present.
 use crate::decision::put_decision;
 use crate::line::code;
-use output::put_line;
 use crate::update::put_update;
 use checker::facts::Facts;
 use checker::facts::learn_value;
+use output::put_line;
 use rule::node::past_at;
 use sets::with_if;
 ghost use mathlib.Core.Path.{_≡_};

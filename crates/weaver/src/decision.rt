@@ -1,9 +1,9 @@
 // Deciding a node towards two places.
 use crate::line::code;
-use output::put_line;
 use crate::line::put_two;
 use checker::facts::Facts;
 use checker::facts::learn_value;
+use output::put_line;
 ghost use mathlib.Core.Path.{_≡_};
 ghost use mathlib.Core.Bool.{false};
 ghost use mathlib.Core.List.{_++_};

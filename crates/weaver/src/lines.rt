@@ -1,11 +1,11 @@
 // A bare script, line after line.
 use crate::block::noted;
 use crate::block::put_block;
-use output::put_line;
 use checker::closing::belonging;
 use layout::mark_starts;
 use layout::measure_nodes;
 use layout::moved_word;
+use output::put_line;
 use script::line::is_present;
 ghost use mathlib.Core.Path.{_≡_};
 ghost use Prim.Native.Nat.{_*_, _≤_, _<_};

@@ -1,12 +1,12 @@
 // A past node's code: its next prior becomes its work bit.
 use crate::decision::put_decision;
 use crate::line::code;
-use output::put_line;
 use crate::line::put_two;
 use crate::line::with_work;
 use checker::facts::Facts;
 use checker::facts::learn_prior;
 use checker::facts::learn_value;
+use output::put_line;
 ghost use mathlib.Core.Path.{_≡_};
 ghost use Prim.Native.Nat.{_+_, _≤_, _<_};
 ghost use lib.ListN.{length, getD, drop};

@@ -1,0 +1,118 @@
+-- `finder::find_facts` meets its contract: question by question, then the lines (`FoundLaws.seven-no`, `nineteen-no`, `room-no`, `all-yes`). Assumes nothing.
+use mathlib.Core.Path.{sym, ap, _∙_}
+use native.Mathlib.Omega.{arith}
+use lib.ListN.{length}
+use borrow.Author.Needs.{needs}
+use Rattle.rule.specs.Answers.{answerOf}
+use Rattle.finder.specs.Rows.{Asked}
+use Rattle.output.specs.Written.{over}
+use Rattle.finder.proofs.SearchLaws.{few-lines, room-all}
+use Rattle.finder.proofs.FoundLaws.{seven-no, nineteen-no, room-no, all-yes, kept-found, count-found}
+use Rattle.finder.proofs.find_facts.Statement.{statement}
+use Rattle.finder.proofs.find_facts.Tie as tie
+
+check-instructions-requires : tie.Need-check-instructions-requires
+check-instructions-requires c κs = search needs
+
+enum-known-checked : tie.Need-enum-known-checked
+enum-known-checked c = search needs
+
+returns : tie.Need-returns
+returns c = seven-no (c .before .before .before .before .before .before .before .args .rule .now) (c .before .before .before .before .before .before .before .args .instructions .now) (c .before .before .before .before .before .before .before .args .out .now) _ _ (sym (c .before .before .before .check-instructions .ensures) ∙ ap answerOf (c .before .checked .given .1))
+
+enum-told : tie.Need-enum-told
+enum-told c = search needs
+
+slice-aggregate-find-in : tie.Need-slice-aggregate-find-in
+slice-aggregate-find-in c = search needs
+
+slice-aggregate-find-in-2 : tie.Need-slice-aggregate-find-in-2
+slice-aggregate-find-in-2 c = search needs
+
+find-in-requires : tie.Need-find-in-requires
+find-in-requires c κs =
+    let a = c .before .before .before .before .before .before .before .before .args in
+    let asked : Asked (a .rule .now) (a .instructions .now) = sym (c .before .before .before .before .check-instructions .ensures) ∙ ap answerOf (c .before .before .enum-told .given .1) in
+    (asked, room-all (length (a .instructions .now)) (few-lines (a .rule .now) (a .instructions .now) asked))
+
+slice-aggregate-ask-known : tie.Need-slice-aggregate-ask-known
+slice-aggregate-ask-known c = search needs
+
+ask-known-requires : tie.Need-ask-known-requires
+ask-known-requires c κs =
+    let a = c .before .before .before .before .before .before .before .before .before .before .before .before .args in
+    let asked : Asked (a .rule .now) (a .instructions .now) = sym (c .before .before .before .before .before .before .before .before .check-instructions .ensures) ∙ ap answerOf (c .before .before .before .before .before .before .enum-told .given .1) in
+    let f = c .before .before .before .find-in .ensures in
+    (asked, f .1, omega (arith, f .0, few-lines (a .rule .now) (a .instructions .now) asked, room-all (length (a .instructions .now)) (few-lines (a .rule .now) (a .instructions .now) asked) .words))
+
+enum-known-known : tie.Need-enum-known-known
+enum-known-known c = search needs
+
+returns-2 : tie.Need-returns-2
+returns-2 c =
+    let a = c .before .before .before .before .before .before .before .before .before .before .before .before .before .before .before .before .args in
+    let asked : Asked (a .rule .now) (a .instructions .now) = sym (c .before .before .before .before .before .before .before .before .before .before .before .before .check-instructions .ensures) ∙ ap answerOf (c .before .before .before .before .before .before .before .before .before .before .enum-told .given .1) in
+    nineteen-no (a .rule .now) (a .instructions .now) (a .out .now) _ _ asked (sym (c .before .before .before .ask-known .ensures) ∙ ap answerOf (c .before .known .given .1))
+
+enum-told-2 : tie.Need-enum-told-2
+enum-told-2 c = search needs
+
+mul-if1 : tie.Need-mul-if1
+mul-if1 c = search needs
+
+returns-3 : tie.Need-returns-3
+returns-3 c =
+    let a = c .before .before .before .before .before .before .before .before .before .before .before .before .before .before .before .before .args in
+    let asked : Asked (a .rule .now) (a .instructions .now) = sym (c .before .before .before .before .before .before .before .before .before .before .before .before .check-instructions .ensures) ∙ ap answerOf (c .before .before .before .before .before .before .before .before .before .before .enum-told .given .1) in
+    room-no (a .rule .now) (a .instructions .now) (a .out .now) asked (sym (c .before .before .before .ask-known .ensures) ∙ ap answerOf (c .before .enum-told2 .given .1)) (c .if1 .taken)
+
+slice-aggregate-put-lines : tie.Need-slice-aggregate-put-lines
+slice-aggregate-put-lines c = search needs
+
+put-lines-requires : tie.Need-put-lines-requires
+put-lines-requires c κs =
+    let a = c .before .before .before .before .before .before .before .before .before .before .before .before .before .before .before .before .before .before .args in
+    let asked : Asked (a .rule .now) (a .instructions .now) = sym (c .before .before .before .before .before .before .before .before .before .before .before .before .before .before .check-instructions .ensures) ∙ ap answerOf (c .before .before .before .before .before .before .before .before .before .before .before .before .enum-told .given .1) in
+    let few = few-lines (a .rule .now) (a .instructions .now) asked in
+    let f = c .before .before .before .before .before .before .before .before .before .find-in .ensures in
+    (omega (arith, f .0, room-all (length (a .instructions .now)) few .words), c .before .before .if1 .left, few)
+
+same-length : tie.Need-same-length
+same-length c = search needs
+
+returns-4 : tie.Need-returns-4
+returns-4 c =
+    let a = c .before .before .before .before .before .before .before .before .before .before .before .before .before .before .before .before .before .before .before .before .before .args in
+    let rule = a .rule .now in
+    let ws = a .instructions .now in
+    let out = a .out .now in
+    let asked : Asked rule ws = sym (c .before .before .before .before .before .before .before .before .before .before .before .before .before .before .before .before .before .check-instructions .ensures) ∙ ap answerOf (c .before .before .before .before .before .before .before .before .before .before .before .before .before .before .before .enum-told .given .1) in
+    let f = c .before .before .before .before .before .before .before .before .before .before .before .before .find-in .ensures in
+    let notes = c .before .before .before .before .before .before .before .before .before .before .before .before .find-in .last .1 .1 .0 in
+    let e = c .before .before .put-lines .ensures in
+    all-yes rule ws out asked (sym (c .before .before .before .before .before .before .before .before .ask-known .ensures) ∙ ap answerOf (c .before .before .before .before .before .before .enum-told2 .given .1)) _ _ (c .before .before .before .before .before .if1 .left)
+    (e .0 ∙ count-found rule ws notes asked (f .1))
+    (e .1 ∙ ap (λ w. over w out) (kept-found rule ws notes asked (f .1) (λ l h. c .before .before .before .before .before .before .before .before .before .before .before .before .before .before .before .before .before .before .before .shared-slice-known2 .given l .fits)))
+
+pub find-facts-spec : {M : Type 1} → statement M
+find-facts-spec =
+    tie.close
+    (tie.spec
+    check-instructions-requires
+    enum-known-checked
+    returns
+    enum-told
+    slice-aggregate-find-in
+    slice-aggregate-find-in-2
+    find-in-requires
+    slice-aggregate-ask-known
+    ask-known-requires
+    enum-known-known
+    returns-2
+    enum-told-2
+    mul-if1
+    returns-3
+    slice-aggregate-put-lines
+    put-lines-requires
+    same-length
+    returns-4)

@@ -1,0 +1,97 @@
+-- `finder::search::push` meets its contract: what the line passes on (`SearchLaws.leads`), both ways (`RowLaws.spread-by`). Assumes nothing.
+use mathlib.Core.Path.{sym, _∙_}
+use Prim.Native.Nat.{_%_}
+use native.Mathlib.Omega.{arith}
+use lib.ListN.{getD}
+use borrow.Author.Needs.{needs}
+use Rattle.spec.specs.Script.{fieldsOf}
+use Rattle.finder.proofs.RowLaws.{spread-by}
+use Rattle.finder.proofs.SearchLaws.{room-line, room-same, few-nodes, names-at, target-in, next-in, leads, push-done}
+use Rattle.finder.proofs.search.push.Statement.{statement}
+use Rattle.finder.proofs.search.push.Tie as tie
+
+mul-word : tie.Need-mul-word
+mul-word c = search needs
+
+shared-slice-read-word : tie.Need-shared-slice-read-word
+shared-slice-read-word c = search needs
+
+load-requires : tie.Need-load-requires
+load-requires c κs = let s = c .before .before .before .before .before .before in room-line _ _ _ _ (s .pre .2) (s .pre .1) .words
+
+lower-requires : tie.Need-lower-requires
+lower-requires c κs = let s = c .before .before .before .before .before .before .before .before in room-line _ _ _ _ (s .pre .2) (s .pre .1) .flag
+
+cast-target : tie.Need-cast-target
+cast-target c = search needs
+
+has-target-requires : tie.Need-has-target-requires
+has-target-requires c κs = search needs
+
+push-to-requires : tie.Need-push-to-requires
+unfolding fieldsOf
+push-to-requires c κs =
+    let s = c .before .before .before .before .before .before .before .before .before .before .before .before .before .before in
+    let p = s .pre in
+    let ws = s .args .code .now in
+    let to = c .before .before .has-target .ensures in (
+      few-nodes _ _ (p .0),
+      names-at _ _ (p .0) _ (p .2),
+      λ e. let h = room-line _ _ _ _ (target-in _ ws (p .0) _ (getD ws (s .args .l) 0 % 1024) (p .2) (sym to ∙ rw e)) (p .1) in
+          record { words = h .words; flag = omega (arith, h .flag, c .before .before .before .before .before .lower .ensures .size) },
+    )
+
+goes-on-requires : tie.Need-goes-on-requires
+goes-on-requires c κs = search needs
+
+add-push-to : tie.Need-add-push-to
+add-push-to c = search needs
+
+push-to-requires-2 : tie.Need-push-to-requires-2
+push-to-requires-2 c κs =
+    let s = c .before .before .before .before .before .before .before .before .before .before .before .before .before .before .before .before .before .before .before .before .before .before in
+    let p = s .pre in
+    let on = c .before .before .goes-on .ensures in
+    let w = c .before .before .before .before .before .before .before .push-to .ensures .lessens in (
+      few-nodes _ _ (p .0),
+      names-at _ _ (p .0) _ (p .2),
+      λ e. let h = room-line _ _ _ _ (next-in _ _ (p .0) _ (p .2) (sym on ∙ e)) (p .1) in
+          record { words = omega (arith, h .words, w .notes-size); flag = omega (arith, h .flag, w .flags-size, c .before .before .before .before .before .before .before .before .before .before .before .before .before .lower .ensures .size) },
+    )
+
+same-length : tie.Need-same-length
+same-length c = c .before .before .before .before .push-to2 .ensures .lessens .notes-size ∙ c .before .before .before .before .before .before .before .before .before .before .before .before .push-to .ensures .lessens .notes-size
+
+same-length-2 : tie.Need-same-length-2
+same-length-2 c =
+    c .before .before .before .before .push-to2 .ensures .lessens .flags-size ∙ c .before .before .before .before .before .before .before .before .before .before .before .before .push-to .ensures .lessens .flags-size ∙ c .before .before .before .before .before .before .before .before .before .before .before .before .before .before .before .before .before .before .lower .ensures .size
+
+returns : tie.Need-returns
+returns c =
+    let s = c .before .before .before .before .before .before .before .before .before .before .before .before .before .before .before .before .before .before .before .before .before .before .before .before .before .before .before in
+    let a = s .args in
+    let p = s .pre in
+    push-done (a .rule .now) (a .code .now) (a .notes .now) (a .flags .now) (a .l) _ _ _ _ _ _ _ _ (p .0) (c .before .before .before .before .before .before .before .before .before .before .before .before .before .before .before .before .before .before .before .before .load .ensures)
+    (leads (a .rule .now) (a .code .now) (a .l) (c .before .before .before .before .before .before .before .before .before .before .before .before .before .before .before .has-target .result)
+    (c .before .before .before .before .before .before .before .goes-on .result) _ (p .2)
+    (c .before .before .before .before .before .before .before .before .before .before .before .before .before .before .before .has-target .ensures) (c .before .before .before .before .before .before .before .goes-on .ensures))
+    (spread-by _ _ _ _ _ _ _ _ _ _ _ _ _ _ (c .before .before .before .before .before .before .before .before .before .before .before .before .before .before .before .before .before .before .lower .ensures)
+    (c .before .before .before .before .before .before .before .before .before .before .before .before .push-to .ensures) (c .before .before .before .before .push-to2 .ensures))
+
+pub push-spec : {M : Type 1} → statement M
+push-spec =
+    tie.close
+    (tie.spec
+    mul-word
+    shared-slice-read-word
+    load-requires
+    lower-requires
+    cast-target
+    has-target-requires
+    push-to-requires
+    goes-on-requires
+    add-push-to
+    push-to-requires-2
+    same-length
+    same-length-2
+    returns)
