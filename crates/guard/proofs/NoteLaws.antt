@@ -3,6 +3,7 @@
 --     then-registers      the same, and then 16 words that follow
 --     room, no-room       a choice by whether n words are lent; words-room, words-no-room the same of the words after it
 --     noted, unlent       an answer's number and words, where there is room and where there is not
+--     count-noted, count-unlent    the same of one that counts what was written to an output
 --     report-number       a report has its run's number
 -- Assumes nothing.
 use mathlib.Core.Path.{_≡_, refl, sym, ap, _∙_}
@@ -16,7 +17,7 @@ use lib.Seq.{sets, sets-eq, take-append-seam, drop-append-add, drop-drop}
 use borrow.Author.Tests.{le-leb, lt-leb}
 use Rattle.spec.specs.Questions.{Answer, passed, refused}
 use Rattle.spec.specs.Machine.{Ended, reportOf}
-use Rattle.guard.specs.Numbers.{tooShort, roomFor, withWords, numberOf, resultFor}
+use Rattle.guard.specs.Numbers.{tooShort, roomFor, withWords, numberOf, resultFor, countWords}
 
 pub at-start : (vs lent : List ℕ) → length vs ≤ length lent → sets lent 0 vs ≡ vs ++ drop (length vs) lent
 at-start vs lent h =
@@ -57,6 +58,19 @@ module _ {A : Type 0} (n : ℕ) (words : Answer A → List ℕ) (lent : List ℕ
   pub unlent : (b : Answer A) → length lent < n → (tooShort ≡ resultFor n lent b) × (lent ≡ withWords n (words b) lent)
   unfolding resultFor
   unlent b h = (no-room n lent h (numberOf b) tooShort, words-no-room n lent h (words b))
+
+-- an answer that counts what was written to an output
+module _ (numbers out after : List ℕ) (x : Answer ℕ) where
+  pub count-unlent : length numbers < 2
+      → (tooShort ≡ resultFor 2 numbers x) × ((numbers ≡ withWords 2 (countWords x) numbers) × (out ≡ cond (roomFor 2 numbers) after out))
+  count-unlent h = let (number, words) = unlent 2 countWords numbers x h in (number, (words, no-room 2 numbers h after out))
+
+  pub count-noted : (a : Answer ℕ) → a ≡ x → (out′ : List ℕ) → out′ ≡ after → 2 ≤ length numbers → (r : ℕ) → r ≡ numberOf a
+      → (written : List ℕ) → written ≡ countWords a ++ drop 2 numbers
+      → (r ≡ resultFor 2 numbers x) × ((written ≡ withWords 2 (countWords x) numbers) × (out′ ≡ cond (roomFor 2 numbers) after out))
+  count-noted a e out′ o h r d written w =
+      let (number, words) = noted 2 countWords numbers a x e h r d written w in
+      (number, (words, o ∙ room 2 numbers h after out))
 
 pub report-number : (a : Answer Ended) → numberOf (reportOf a .stop) ≡ numberOf a
 report-number (passed e) = refl

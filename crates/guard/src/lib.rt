@@ -9,6 +9,7 @@ use crate::states::put_machine;
 use crate::states::read_machine;
 use crate::states::registers_fit;
 use checker::check_script;
+use finder::find_facts;
 use machine::Machine;
 use machine::run;
 use rule::check_rule;
@@ -26,6 +27,7 @@ ghost use Rattle.spec.specs.Script.{checkBare};
 ghost use Rattle.spec.specs.Check.{checkScript};
 ghost use Rattle.spec.specs.Machine.{freshOf, running, reportOf, historyAfter};
 ghost use Rattle.spec.specs.Weaver.{weaving, outputAfter};
+ghost use Rattle.largest.specs.Largest.{foundAnswer, foundOutput};
 ghost use Rattle.grammar.specs.Texting.{texting, countOf, outputOf};
 ghost use Rattle.guard.specs.Numbers.{roomFor, tooShort, withWords, resultFor, checkedWords, countWords, verdictWords, reportWords};
 ghost use Rattle.guard.specs.States.{stateLength, stateWords, isStated, stepResult, stepped};
@@ -98,6 +100,25 @@ pub extern "C" fn guard_weave(
         return 99;
     }
     note_count(weave(rule, bare, out), numbers)
+}
+
+// The largest facts for instructions without: questions 1 to 7, 19 and 13 first. Two words: place, facts. The annotated lines go to
+// `out`, eight words each.
+#[no_mangle]
+pub extern "C" fn guard_facts(
+    rule: &[u32],
+    instructions: &[u32],
+    out: &mut [u32],
+    numbers: &mut [u64],
+) -> u32
+    ensures result { λ r. ⌜ r ≡ resultFor 2 (now (numbers .entry)) (foundAnswer form32 (now (rule .entry)) (now (instructions .entry)) (now (out .entry))) ⌝ }
+    ensures words { λ r. ⌜ now (numbers .exit) ≡ withWords 2 (countWords (foundAnswer form32 (now (rule .entry)) (now (instructions .entry)) (now (out .entry)))) (now (numbers .entry)) ⌝ }
+    ensures output { λ r. ⌜ now (out .exit) ≡ cond (roomFor 2 (now (numbers .entry))) (foundOutput form32 (now (rule .entry)) (now (instructions .entry)) (now (out .entry))) (now (out .entry)) ⌝ }
+{
+    if numbers.len() < 2 {
+        return 99;
+    }
+    note_count(find_facts(rule, instructions, out), numbers)
 }
 
 // The verdict on a history: questions 1 to 4, 14 and 15 first. Four words: place; 1 where the rule is false somewhere; the lowest

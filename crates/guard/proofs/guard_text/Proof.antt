@@ -1,23 +1,20 @@
 -- `guard::guard_text` meets its contract. Assumes nothing.
-use mathlib.Core.Path.{_∙_}
 use lib.ListN.{length}
-use Rattle.spec.specs.Rule.{form32}
 use Rattle.grammar.specs.Texting.{texting, countOf, outputOf}
-use Rattle.rule.specs.Answers.{countedOf}
-use Rattle.guard.specs.Numbers.{countWords}
-use Rattle.guard.proofs.NoteLaws.{noted, unlent, room, no-room}
+use Rattle.spec.specs.Rule.{form32}
+use Rattle.guard.proofs.NoteLaws.{count-noted, count-unlent}
 use borrow.Author.Needs.{needs}
 use Rattle.guard.proofs.guard_text.Statement.{statement}
 use Rattle.guard.proofs.guard_text.Tie as tie
 
 returns : tie.Need-returns
 returns c =
-    let a = c .before .before .before .before .args in
+    let s = c .before .before .before .before in
+    let a = s .args in
     let t = texting form32 (length (a .out .now)) (a .text .now) in
     let x = countOf t in
     let after = outputOf t (a .out .now) in
-    let (number, words) = unlent 2 countWords (a .numbers .now) x (c .if1 .taken) in
-    (number, (words, no-room 2 (a .numbers .now) (c .if1 .taken) after (a .out .now)))
+    count-unlent (a .numbers .now) (a .out .now) after x (c .if1 .taken)
 
 read-text-requires : tie.Need-read-text-requires
 read-text-requires c κs = search needs
@@ -33,15 +30,14 @@ same-length-2 c = search needs
 
 returns-2 : tie.Need-returns-2
 returns-2 c =
-    let a = c .before .before .before .before .before .before .before .before .before .before .before .before .args in
+    let s = c .before .before .before .before .before .before .before .before .before .before .before .before in
+    let a = s .args in
     let t = texting form32 (length (a .out .now)) (a .text .now) in
     let x = countOf t in
     let after = outputOf t (a .out .now) in
-    let h = c .before .before .before .before .before .before .before .before .if1 .left in
-    let w = c .before .before .before .before .before .before .read-text in
+    let w = c .before .before .before .before .before .before .read-text .ensures in
     let e = c .before .before .note-count .ensures in
-    let (number, words) = noted 2 countWords (a .numbers .now) (countedOf (w .result)) x (w .ensures .0) h _ (e .0) _ (e .1) in
-    (number, (words, w .ensures .1 .0 ∙ room 2 (a .numbers .now) h after (a .out .now)))
+    count-noted (a .numbers .now) (a .out .now) after x _ (w .0) _ (w .1 .0) (c .before .before .before .before .before .before .before .before .if1 .left) _ (e .0) _ (e .1)
 
 pub guard-text-spec : {M : Type 1} → statement M
 guard-text-spec =

@@ -1,21 +1,18 @@
 -- `guard::guard_weave` meets its contract. Assumes nothing.
-use mathlib.Core.Path.{_∙_}
-use Rattle.spec.specs.Rule.{form32}
 use Rattle.spec.specs.Weaver.{weaving, outputAfter}
-use Rattle.rule.specs.Answers.{countedOf}
-use Rattle.guard.specs.Numbers.{countWords}
-use Rattle.guard.proofs.NoteLaws.{noted, unlent, room, no-room}
+use Rattle.spec.specs.Rule.{form32}
+use Rattle.guard.proofs.NoteLaws.{count-noted, count-unlent}
 use borrow.Author.Needs.{needs}
 use Rattle.guard.proofs.guard_weave.Statement.{statement}
 use Rattle.guard.proofs.guard_weave.Tie as tie
 
 returns : tie.Need-returns
 returns c =
-    let a = c .before .before .before .before .before .args in
+    let s = c .before .before .before .before .before in
+    let a = s .args in
     let x = weaving form32 (a .rule .now) (a .bare .now) (a .out .now) in
     let after = outputAfter form32 (a .rule .now) (a .bare .now) (a .out .now) in
-    let (number, words) = unlent 2 countWords (a .numbers .now) x (c .if1 .taken) in
-    (number, (words, no-room 2 (a .numbers .now) (c .if1 .taken) after (a .out .now)))
+    count-unlent (a .numbers .now) (a .out .now) after x (c .if1 .taken)
 
 weave-requires : tie.Need-weave-requires
 weave-requires c κs = search needs
@@ -31,14 +28,13 @@ same-length-2 c = search needs
 
 returns-2 : tie.Need-returns-2
 returns-2 c =
-    let a = c .before .before .before .before .before .before .before .before .before .before .before .before .before .args in
+    let s = c .before .before .before .before .before .before .before .before .before .before .before .before .before in
+    let a = s .args in
     let x = weaving form32 (a .rule .now) (a .bare .now) (a .out .now) in
     let after = outputAfter form32 (a .rule .now) (a .bare .now) (a .out .now) in
-    let h = c .before .before .before .before .before .before .before .before .if1 .left in
-    let w = c .before .before .before .before .before .before .weave in
+    let w = c .before .before .before .before .before .before .weave .ensures in
     let e = c .before .before .note-count .ensures in
-    let (number, words) = noted 2 countWords (a .numbers .now) (countedOf (w .result)) x (w .ensures .0) h _ (e .0) _ (e .1) in
-    (number, (words, w .ensures .1 .0 ∙ room 2 (a .numbers .now) h after (a .out .now)))
+    count-noted (a .numbers .now) (a .out .now) after x _ (w .0) _ (w .1 .0) (c .before .before .before .before .before .before .before .before .if1 .left) _ (e .0) _ (e .1)
 
 pub guard-weave-spec : {M : Type 1} → statement M
 guard-weave-spec =
