@@ -46,6 +46,11 @@ impl Facts {
     pub fn among(&self, other: &Facts) -> bool {
         (0..7).all(|k| self.set[k] & !other.set[k] == 0)
     }
+
+    /// The facts that are in both.
+    pub fn meet(&self, other: &Facts) -> Facts {
+        Facts { set: std::array::from_fn(|k| self.set[k] & other.set[k]) }
+    }
 }
 
 /// A rule of the reference that is made wrong on purpose.
@@ -71,6 +76,14 @@ pub enum Fault {
     RangeFirst,
     /// Two words of a text may touch.
     WordsTouch,
+    /// The search for the largest facts starts with none where nothing leads.
+    UnledEmpty,
+    /// It starts without C.
+    StartsWithoutC,
+    /// 13 is put before 19.
+    OutputFirst,
+    /// The count of facts leaves out C.
+    CountsNoC,
 }
 
 thread_local! {

@@ -4,6 +4,7 @@ pub mod facts;
 pub mod generate;
 pub mod generate_text;
 pub mod judge;
+pub mod largest;
 pub mod listing;
 pub mod machine;
 pub mod plain;

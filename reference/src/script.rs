@@ -100,16 +100,26 @@ fn check_code(rule: &Rule, opcode_allowed: fn(u8) -> bool, lines: &[Line]) -> Re
     Ok(())
 }
 
-/// A bare script: questions 1 to 7.
-pub fn check_bare(rule: &[u32], words: &[u32]) -> Result<(Rule, Vec<Line>), No> {
+/// One word a line: questions 1 to 7.
+fn check_words(rule: &[u32], opcode_allowed: fn(u8) -> bool, words: &[u32]) -> Result<(Rule, Vec<Line>), No> {
     let rule = check_rule(rule)?;
     // 5. 1 to 1,024 whole lines?
     if words.is_empty() || words.len() > MOST_LINES {
         return no(5, 0);
     }
     let lines: Vec<Line> = words.iter().map(|&w| Line::decode(w)).collect();
-    check_code(&rule, bare_opcode, &lines)?;
+    check_code(&rule, opcode_allowed, &lines)?;
     Ok((rule, lines))
+}
+
+/// A bare script: questions 1 to 7.
+pub fn check_bare(rule: &[u32], words: &[u32]) -> Result<(Rule, Vec<Line>), No> {
+    check_words(rule, bare_opcode, words)
+}
+
+/// The instructions of an annotated script without their facts: questions 1 to 7.
+pub fn check_instructions(rule: &[u32], words: &[u32]) -> Result<(Rule, Vec<Line>), No> {
+    check_words(rule, annotated_opcode, words)
 }
 
 /// An annotated script: questions 1 to 11.
