@@ -96,6 +96,14 @@ pub fn put(request: &Request, met: &mut Met) -> Result<(), String> {
             n.check("numbers")?;
             o.check("out")
         }
+        Request::Facts { rule, instructions, out, numbers } => {
+            let mut n = Lent::new(numbers, 7);
+            let mut o = Lent::new(out, 7);
+            let ((p, r), (po, ro)) = (n.both(), o.both());
+            count("facts", same(proved::facts(rule, instructions, po, p), faced::facts(rule, instructions, ro, r))?);
+            n.check("numbers")?;
+            o.check("out")
+        }
         Request::Judge { rule, history, numbers } => {
             let mut n = Lent::new(numbers, 7);
             let (p, r) = n.both();

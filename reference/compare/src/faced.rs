@@ -1,5 +1,6 @@
 //! What `include/guard.h` says of each function, over the reference.
 use reference::judge::judge as judge_history;
+use reference::largest::find_facts;
 use reference::machine::{self, fresh as fresh_machine, nodes_within, step_stored, Machine, Stop};
 use reference::rule::check_rule;
 use reference::script::{check_bare, check_script};
@@ -46,7 +47,7 @@ pub fn script(rule: &[u32], script: &[u32], numbers: &mut [u64]) -> u32 {
     checked(numbers, || check_script(rule, script))
 }
 
-/// How many were written, of lines or of nodes.
+/// How many were written, of lines, of nodes or of facts.
 fn written(numbers: &mut [u64], answer: impl FnOnce() -> Result<usize, No>) -> u32 {
     if numbers.len() < 2 {
         return TOO_SHORT;
@@ -65,6 +66,10 @@ fn written(numbers: &mut [u64], answer: impl FnOnce() -> Result<usize, No>) -> u
 
 pub fn weave(rule: &[u32], bare: &[u32], out: &mut [u32], numbers: &mut [u64]) -> u32 {
     written(numbers, || weave_script(rule, bare, out))
+}
+
+pub fn facts(rule: &[u32], instructions: &[u32], out: &mut [u32], numbers: &mut [u64]) -> u32 {
+    written(numbers, || find_facts(rule, instructions, out))
 }
 
 pub fn text(text: &[u8], out: &mut [u32], numbers: &mut [u64]) -> u32 {

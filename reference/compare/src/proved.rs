@@ -28,6 +28,16 @@ pub mod face {
             numbers: *mut u64,
             numbers_length: usize,
         ) -> u32;
+        pub fn guard_facts(
+            rule: *const u32,
+            rule_length: usize,
+            instructions: *const u32,
+            instructions_length: usize,
+            out: *mut u32,
+            out_length: usize,
+            numbers: *mut u64,
+            numbers_length: usize,
+        ) -> u32;
         pub fn guard_judge(
             rule: *const u32,
             rule_length: usize,
@@ -95,6 +105,21 @@ pub fn weave(rule: &[u32], bare: &[u32], out: &mut [u32], numbers: &mut [u64]) -
             rule.len(),
             bare.as_ptr(),
             bare.len(),
+            out.as_mut_ptr(),
+            out.len(),
+            numbers.as_mut_ptr(),
+            numbers.len(),
+        )
+    }
+}
+
+pub fn facts(rule: &[u32], instructions: &[u32], out: &mut [u32], numbers: &mut [u64]) -> u32 {
+    unsafe {
+        face::guard_facts(
+            rule.as_ptr(),
+            rule.len(),
+            instructions.as_ptr(),
+            instructions.len(),
             out.as_mut_ptr(),
             out.len(),
             numbers.as_mut_ptr(),

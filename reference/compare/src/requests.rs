@@ -1,9 +1,10 @@
 //! Random requests: what passes every question, what is spoiled bit by bit, several faults at once, lengths one short and one
 //! long.
-use crate::texts;
-use reference::facts::{all_facts, close, first_facts, pass, Facts, T};
+use crate::{guards, texts};
+use reference::facts::{close, T};
 use reference::generate;
 use reference::judge::{first_priors, next_priors, values_now};
+use reference::largest::note_largest;
 use reference::random::Rng;
 use reference::rule::{check_rule, Rule};
 use reference::script::{encode_lines, instruction_words, Line};
@@ -17,6 +18,7 @@ pub enum Request {
     Bare { rule: Vec<u32>, script: Vec<u32>, numbers: Vec<u64> },
     Script { rule: Vec<u32>, script: Vec<u32>, numbers: Vec<u64> },
     Weave { rule: Vec<u32>, bare: Vec<u32>, out: Vec<u32>, numbers: Vec<u64> },
+    Facts { rule: Vec<u32>, instructions: Vec<u32>, out: Vec<u32>, numbers: Vec<u64> },
     Judge { rule: Vec<u32>, history: Vec<u16>, numbers: Vec<u64> },
     Run { rule: Vec<u32>, script: Vec<u32>, inputs: Vec<u16>, budget: u64, history: Vec<u16>, numbers: Vec<u64> },
     Fresh { rule: Vec<u32>, state: Vec<u64> },
@@ -38,7 +40,7 @@ fn numbers(g: &mut Rng, needed: usize) -> Vec<u64> {
 }
 
 /// One to four bits flipped.
-fn spoil(g: &mut Rng, words: &mut [u32]) {
+pub fn spoil(g: &mut Rng, words: &mut [u32]) {
     if words.is_empty() {
         return;
     }
@@ -49,7 +51,7 @@ fn spoil(g: &mut Rng, words: &mut [u32]) {
 }
 
 /// One word less, one more.
-fn lengthen(g: &mut Rng, words: &mut Vec<u32>) {
+pub fn lengthen(g: &mut Rng, words: &mut Vec<u32>) {
     if g.chance(1, 2) {
         words.pop();
     } else {
@@ -106,8 +108,8 @@ fn bare(g: &mut Rng, rule: &Rule, spoiled: usize) -> Vec<u32> {
     words
 }
 
-/// Instructions of an annotated script at random, with the most facts that can be noted there.
-fn noted_most(g: &mut Rng, rule: &Rule) -> Vec<Line> {
+/// Instructions of an annotated script at random.
+pub fn instructions(g: &mut Rng, rule: &Rule) -> Vec<Line> {
     let n = g.within(1, 14);
     let past = rule.past_nodes();
     let mut lines: Vec<Line> = vec![];
@@ -146,40 +148,21 @@ fn noted_most(g: &mut Rng, rule: &Rule) -> Vec<Line> {
             _ => Line::new(op, 0, node, 0),
         });
     }
-    note_most(rule, &mut lines);
+    lines
+}
+
+/// Instructions of an annotated script at random, with the most facts that can be noted there.
+fn noted_most(g: &mut Rng, rule: &Rule) -> Vec<Line> {
+    let mut lines = instructions(g, rule);
+    note_largest(rule, &mut lines);
     // often, presents that the facts do not allow are made gos, so that the script is accepted
     if g.chance(1, 2) {
         while let Some(i) = lines.iter().position(|l| l.op == 8 && !close(rule, &l.facts).has(T, rule.last())) {
             lines[i] = Line::new(7, 0, 0, i as u16 + 1);
-            note_most(rule, &mut lines);
+            note_largest(rule, &mut lines);
         }
     }
     lines
-}
-
-/// Notes the most facts that questions 8, 9 and 11 let pass, found by crossing out what some line does not pass on.
-fn note_most(rule: &Rule, lines: &mut [Line]) {
-    let meet = |a: Facts, b: Facts| Facts { set: std::array::from_fn(|k| a.set[k] & b.set[k]) };
-    for l in lines.iter_mut() {
-        l.facts = all_facts(rule);
-    }
-    lines[0].facts = first_facts(rule);
-    loop {
-        let before: Vec<Facts> = lines.iter().map(|l| l.facts).collect();
-        for i in 0..lines.len() {
-            let p = pass(rule, &lines[i]);
-            if let Some(f) = p.target {
-                let t = lines[i].target as usize;
-                lines[t].facts = meet(lines[t].facts, f);
-            }
-            if let Some(f) = p.next {
-                lines[i + 1].facts = meet(lines[i + 1].facts, f);
-            }
-        }
-        if lines.iter().map(|l| l.facts).eq(before) {
-            return;
-        }
-    }
 }
 
 /// An annotated script for a rule: woven, or with the most facts noted; sometimes spoiled.
@@ -373,14 +356,34 @@ fn text(g: &mut Rng) -> Request {
     Request::Text { text, out, numbers: numbers(g, 2) }
 }
 
-/// Request number `n` of a seed: it depends on nothing else, so that a difference can be looked at again by its number. Every eighth
-/// is a text, whatever the seed: the others have kept the numbers that they had before there were texts.
+/// Instructions without facts, and eight words a line, or fewer or more.
+fn facts(g: &mut Rng) -> Request {
+    let (table, rule) = rule(g, 8);
+    let instructions = guards::instructions(g, &table);
+    let needed = 8 * instructions.len();
+    let length = match g.below(12) {
+        0 | 1 => needed.saturating_sub(1),
+        2 => needed + 1,
+        3 => 0,
+        4 => g.below(needed + 1),
+        5 => needed + g.below(40),
+        _ => needed,
+    };
+    let out = (0..length).map(|_| g.next() as u32).collect();
+    Request::Facts { rule, instructions, out, numbers: numbers(g, 2) }
+}
+
+/// Request number `n` of a seed: it depends on nothing else, so that a difference can be looked at again by its number. Of every eight
+/// the last is a text and the fourth asks for facts, whatever the seed: the others have kept the numbers that they had before there
+/// were such requests.
 pub fn request(seed: u64, n: u64) -> Request {
     let mut g = Rng(seed ^ n.wrapping_mul(0xd134_2543_de82_ef95));
     let g = &mut g;
     g.next();
-    if n % 8 == 7 {
-        return text(g);
+    match n % 8 {
+        3 => return facts(g),
+        7 => return text(g),
+        _ => {}
     }
     match g.below(20) {
         0 | 1 => {

@@ -3,11 +3,13 @@
 use compare::compare::{compare, put, Met};
 use compare::requests::{request, Request};
 use compare::{faced, proved};
-use reference::facts::{with_planted_fault, Fault};
+use reference::facts::{all_facts, first_facts, pass, with_planted_fault, Facts, Fault, T};
 use reference::judge::{first_priors, judge, next_priors, states, values_now};
-use reference::rule::check_rule;
-use reference::script::{check_bare, check_script};
-use std::collections::BTreeMap;
+use reference::largest::find_facts;
+use reference::rule::{check_rule, Rule};
+use reference::script::{check_bare, check_instructions, check_script, Line};
+use std::cmp::Ordering;
+use std::collections::{BTreeMap, BTreeSet};
 use std::env;
 
 const SEED: u64 = 20_261_115;
@@ -31,8 +33,11 @@ fn tell(met: &Met) {
 fn proved_and_reference_agree() {
     let met = compare(number("GUARD_SEED", SEED), number("GUARD_REQUESTS", REQUESTS)).unwrap_or_else(|e| panic!("{e}"));
     tell(&met);
-    for refusal in (0..=18).chain([98, 99]) {
+    for refusal in (0..=19).chain([98, 99]) {
         assert!(met.with_result(refusal) > 0, "no call handed back {refusal}");
+    }
+    for refusal in (0..=7).chain([13, 19, 99]) {
+        assert!(met.results.contains_key(&("facts", refusal)), "no instructions were answered with {refusal}");
     }
     for refusal in [0, 13, 16, 17, 18, 99] {
         assert!(met.results.contains_key(&("text", refusal)), "no text was answered with {refusal}");
@@ -57,6 +62,10 @@ fn planted_faults_are_noticed() {
         Fault::OrWithoutNot,
         Fault::RangeFirst,
         Fault::WordsTouch,
+        Fault::UnledEmpty,
+        Fault::StartsWithoutC,
+        Fault::OutputFirst,
+        Fault::CountsNoC,
     ] {
         let mut met = Met::default();
         let noticed = (0..REQUESTS).find(|&n| {
@@ -190,6 +199,128 @@ fn since_steps_meet_their_cases() {
     assert!(met.iter().all(|&n| n >= 1_000), "{met:?}");
 }
 
+/// One line leads to another, to its target or to its next line.
+type Way = (usize, usize);
+
+fn ways(lines: &[Line]) -> BTreeSet<Way> {
+    lines.iter().enumerate().flat_map(|(i, l)| l.follows(i).into_iter().map(move |to| (i, to))).collect()
+}
+
+/// The lines that are reached from line 0 over lines that `goes_on` lets pass.
+fn reached(lines: &[Line], goes_on: fn(&Line) -> bool) -> BTreeSet<usize> {
+    let mut seen = BTreeSet::from([0]);
+    let mut open = vec![0];
+    while let Some(i) = open.pop() {
+        if goes_on(&lines[i]) {
+            open.extend(lines[i].follows(i).into_iter().filter(|&to| seen.insert(to)));
+        }
+    }
+    seen
+}
+
+/// The presents that the largest facts fail, were it not for one of the ways: sweeps until nothing changes.
+fn failing_without(rule: &Rule, lines: &[Line], left_out: Option<Way>) -> Vec<usize> {
+    let mut lines = lines.to_vec();
+    lines.iter_mut().for_each(|l| l.facts = all_facts(rule));
+    lines[0].facts = first_facts(rule);
+    loop {
+        let before = lines.clone();
+        for (i, l) in before.iter().enumerate() {
+            let passed = pass(rule, l);
+            let led: [(usize, Option<Facts>); 2] = [(l.target as usize, passed.target), (i + 1, passed.next)];
+            for (to, facts) in led.into_iter().filter(|(to, _)| Some((i, *to)) != left_out) {
+                if let Some(facts) = facts {
+                    lines[to].facts = lines[to].facts.meet(&facts);
+                }
+            }
+        }
+        if lines == before {
+            return (0..lines.len()).filter(|&i| lines[i].op == 8 && !lines[i].facts.has(T, rule.last())).collect();
+        }
+    }
+}
+
+/// What instructions meet that have largest facts.
+fn found_met(lines: &[Line]) -> Vec<&'static str> {
+    let (ways, reached) = (ways(lines), reached(lines, |_| true));
+    let led: BTreeSet<usize> = ways.iter().map(|way| way.1).collect();
+    let mut met = vec![];
+    if (1..lines.len()).any(|i| !led.contains(&i)) {
+        met.push("facts where nothing leads");
+    }
+    if led.iter().any(|i| !reached.contains(i)) {
+        met.push("facts where only lines lead that nothing reaches");
+    }
+    if (0..lines.len()).any(|i| lines[i].op == 8 && reached.contains(&i)) {
+        met.push("a present");
+    }
+    if (0..lines.len()).any(|i| lines[i].op == 8 && !reached.contains(&i)) {
+        met.push("a present that nothing reaches");
+    }
+    if (0..lines.len()).any(|i| lines[i].op == 7 && lines[i].target as usize <= i && reached.contains(&i)) {
+        met.push("a go backwards");
+    }
+    if lines.len() >= 1000 {
+        met.push("a thousand lines");
+    }
+    met
+}
+
+/// How instructions fail at the lowest present without T.
+fn lost_met(rule: &Rule, lines: &[Line], place: usize) -> Vec<&'static str> {
+    if lines.len() >= 1000 {
+        return vec!["19 in a thousand lines"];
+    }
+    let mut met = BTreeSet::new();
+    let failing = failing_without(rule, lines, None);
+    assert_eq!(failing[0], place);
+    if failing.len() > 1 {
+        met.insert("19 and a higher present fails too");
+    }
+    if lines[..place].iter().any(|l| l.op == 8) {
+        met.insert("19 and a lower present passes");
+    }
+    if !reached(lines, |_| true).contains(&place) {
+        met.insert("19 where nothing reaches");
+    } else if reached(lines, |l| !matches!(l.op, 5 | 6 | 10 | 11 | 13)).contains(&place) {
+        met.insert("19 before any test");
+    }
+    // the present would pass if one of several ways to some line were not there; to line 0 the start is another
+    let ways = ways(lines);
+    let several = |way: &&Way| way.1 == 0 || ways.iter().any(|other| other.1 == way.1 && other.0 != way.0);
+    for &(i, to) in ways.iter().filter(several).filter(|_| lines.len() <= 40) {
+        if !failing_without(rule, lines, Some((i, to))).contains(&place) {
+            met.insert(if i < to { "19 for a way forwards to a line" } else { "19 for a way back to a line" });
+        }
+    }
+    met.into_iter().collect()
+}
+
+/// The instructions without facts meet each way to succeed and to fail.
+#[test]
+fn facts_meet_their_cases() {
+    let mut met: BTreeMap<&str, u32> = BTreeMap::new();
+    for n in 0..60_000 {
+        let Request::Facts { rule, instructions, out, .. } = request(SEED, n) else { continue };
+        let Ok((table, lines)) = check_instructions(&rule, &instructions) else { continue };
+        let needed = 8 * lines.len();
+        let lost = find_facts(&rule, &instructions, &mut vec![0; needed]).err();
+        let mut names = lost.map_or_else(|| found_met(&lines), |no| lost_met(&table, &lines, no.place));
+        names.extend(match (lost, out.len().cmp(&needed)) {
+            (None, Ordering::Less) if out.len() + 1 == needed => Some("13 for one word"),
+            (None, Ordering::Less) => Some("13 for several words"),
+            (Some(_), Ordering::Less) => Some("19 where 13 is due too"),
+            (None, Ordering::Greater) => Some("words after the lines"),
+            _ => None,
+        });
+        for name in names {
+            *met.entry(name).or_default() += 1;
+        }
+    }
+    println!("{met:#?}");
+    assert!(met.len() == 17 && met.values().all(|&n| n >= 10), "{met:?}");
+}
+
 /// Every length of lent numbers, from none to two more than are needed, for answers of each kind.
 #[test]
 fn lent_lengths() {
@@ -198,6 +329,9 @@ fn lent_lengths() {
     let mut woven = vec![0; 8 * 16];
     assert_eq!(proved::weave(&rule, &bare, &mut woven, &mut [0; 2]), 0);
     let inputs = [1, 0, 0, 1, 1, 0];
+    let stripped: Vec<u32> = woven.iter().step_by(8).copied().collect();
+    // the present before its guard
+    let lost = [&[8 << 28], &stripped[1..]].concat();
     for script in [&woven[..], &woven[..127], &[]] {
         for length in 0..=24 {
             let numbers: Vec<u64> = (100..100 + length).collect();
@@ -210,6 +344,11 @@ fn lent_lengths() {
                     (proved::bare(&rule, script, &mut p.0), faced::bare(&rule, script, &mut r.0)),
                     (proved::script(&rule, script, &mut p.0), faced::script(&rule, script, &mut r.0)),
                     (proved::weave(&rule, &bare, &mut p.2, &mut p.0), faced::weave(&rule, &bare, &mut r.2, &mut r.0)),
+                    (
+                        proved::facts(&rule, &stripped, &mut p.2, &mut p.0),
+                        faced::facts(&rule, &stripped, &mut r.2, &mut r.0),
+                    ),
+                    (proved::facts(&rule, &lost, &mut p.2, &mut p.0), faced::facts(&rule, &lost, &mut r.2, &mut r.0)),
                     (proved::judge(&rule, &p.1, &mut p.0), faced::judge(&rule, &r.1, &mut r.0)),
                     (
                         proved::run(&rule, script, &inputs, 1000, &mut p.1, &mut p.0),

@@ -7,11 +7,19 @@ use std::arch::asm;
 use std::collections::BTreeMap;
 use std::hint::black_box;
 
+/// Words of the stack that the functions are called on; guard_facts keeps all facts of a script there, and has a larger one.
 const WORDS: usize = 4096;
+const FACTS_WORDS: usize = 32_768;
 const REQUESTS: u64 = 40_000;
 
 #[repr(align(16))]
-struct Stack([u64; WORDS]);
+struct Stack<const WORDS: usize>([u64; WORDS]);
+
+/// One for guard_facts, one for the others: painting the larger takes its time.
+struct Stacks {
+    others: Box<Stack<WORDS>>,
+    facts: Box<Stack<FACTS_WORDS>>,
+}
 
 /// What word i is painted with: no two alike, and nothing that a program would write.
 fn paint(i: usize) -> u64 {
@@ -24,7 +32,7 @@ extern "C" fn enter<X: FnMut()>(work: *mut X) {
 }
 
 /// Does the work on a stack of its own, and answers how many bytes of it were written.
-fn painted<X: FnMut()>(stack: &mut Stack, mut work: X) -> usize {
+fn painted<const WORDS: usize, X: FnMut()>(stack: &mut Stack<WORDS>, mut work: X) -> usize {
     for (i, word) in stack.0.iter_mut().enumerate() {
         *word = paint(i);
     }
@@ -51,7 +59,7 @@ extern "C" fn idle() -> u32 {
 }
 
 /// What a function takes beyond one that does nothing, and its return address.
-fn taken<F: Copy>(stack: &mut Stack, function: F, call: impl Fn(F) -> u32) -> usize {
+fn taken<const WORDS: usize, F: Copy>(stack: &mut Stack<WORDS>, function: F, call: impl Fn(F) -> u32) -> usize {
     // Safety: F is a pointer to a function of the C interface; one that looks at none of its arguments may be called as any such.
     let nothing: F = unsafe { std::mem::transmute_copy(&(idle as extern "C" fn() -> u32)) };
     let mut of = |f: F| {
@@ -65,7 +73,8 @@ fn taken<F: Copy>(stack: &mut Stack, function: F, call: impl Fn(F) -> u32) -> us
 /// The functions' names, and the most that a call has taken.
 type Most = BTreeMap<&'static str, usize>;
 
-fn put(stack: &mut Stack, most: &mut Most, request: &Request) {
+fn put(stacks: &mut Stacks, most: &mut Most, request: &Request) {
+    let stack = &mut *stacks.others;
     let mut note = |name, bytes: usize| {
         let before = most.entry(name).or_default();
         *before = bytes.max(*before);
@@ -95,6 +104,14 @@ fn put(stack: &mut Stack, most: &mut Most, request: &Request) {
             let (n, length) = (numbers.as_mut_ptr(), numbers.len());
             let function = face::guard_weave as unsafe extern "C" fn(_, _, _, _, _, _, _, _) -> _;
             note("WEAVE", taken(stack, function, |f| unsafe { f(rule.as_ptr(), rule.len(), b, words, o, space, n, length) }));
+        }
+        Request::Facts { rule, instructions, mut out, mut numbers } => {
+            let (i, words) = (instructions.as_ptr(), instructions.len());
+            let (o, space) = (out.as_mut_ptr(), out.len());
+            let (n, length) = (numbers.as_mut_ptr(), numbers.len());
+            let function = face::guard_facts as unsafe extern "C" fn(_, _, _, _, _, _, _, _) -> _;
+            let call = |f: unsafe extern "C" fn(_, _, _, _, _, _, _, _) -> _| unsafe { f(rule.as_ptr(), rule.len(), i, words, o, space, n, length) };
+            note("FACTS", taken(&mut *stacks.facts, function, call));
         }
         Request::Judge { rule, history, mut numbers } => {
             let (h, space) = (history.as_ptr(), history.len());
@@ -165,11 +182,13 @@ fn full_requests(rule: Vec<u32>) -> Vec<Request> {
     let script = out.clone();
     let inputs = vec![1; 5_000];
     let history = vec![0; 16 * 1_000];
+    let stripped = script.iter().step_by(8).copied().collect();
     vec![
         Request::Rule { rule: rule.clone(), numbers: numbers.clone() },
         Request::Bare { rule: rule.clone(), script: bare.clone(), numbers: numbers.clone() },
         Request::Script { rule: rule.clone(), script: script.clone(), numbers: numbers.clone() },
-        Request::Weave { rule: rule.clone(), bare, out, numbers: numbers.clone() },
+        Request::Weave { rule: rule.clone(), bare, out: out.clone(), numbers: numbers.clone() },
+        Request::Facts { rule: rule.clone(), instructions: stripped, out, numbers: numbers.clone() },
         Request::Judge { rule: rule.clone(), history: history.clone(), numbers: numbers.clone() },
         Request::Run {
             rule: rule.clone(),
@@ -210,22 +229,22 @@ fn stated(name: &str) -> usize {
 
 #[test]
 fn stack_is_what_the_header_says() {
-    let mut stack = Box::new(Stack([0; WORDS]));
+    let mut stacks = Stacks { others: Box::new(Stack([0; WORDS])), facts: Box::new(Stack([0; FACTS_WORDS])) };
     let mut most = Most::new();
     for rule in deepest_rules() {
         for request in full_requests(rule) {
-            put(&mut stack, &mut most, &request);
+            put(&mut stacks, &mut most, &request);
         }
     }
     for request in deepest_texts() {
-        put(&mut stack, &mut most, &request);
+        put(&mut stacks, &mut most, &request);
     }
     println!("deepest rules and texts, full scripts: {most:?}");
     for n in 0..REQUESTS {
-        put(&mut stack, &mut most, &request(3, n));
+        put(&mut stacks, &mut most, &request(3, n));
     }
     println!("and random requests: {most:?}");
-    assert_eq!(most.len(), 9);
+    assert_eq!(most.len(), 10);
     for (name, bytes) in most {
         let said = stated(name);
         assert!(bytes <= said, "GUARD_STACK_{name} says {said}, a call took {bytes}");

@@ -1,4 +1,5 @@
 //! Peers of the proved code in plain Rust: the same questions and the same answers, written for speed and not for proof.
+pub mod facts;
 pub mod judge;
 pub mod machine;
 pub mod rule;

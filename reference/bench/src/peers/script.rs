@@ -77,8 +77,8 @@ struct Join {
 }
 
 /// What closing and passing on need of a rule.
-struct Closing<'a> {
-    rule: &'a Rule<'a>,
+pub(super) struct Closing<'a> {
+    pub(super) rule: &'a Rule<'a>,
     joins: [Join; 32],
     count: usize,
     /// The nodes' words; where there is no node, one that no test has.
@@ -86,7 +86,7 @@ struct Closing<'a> {
 }
 
 impl<'a> Closing<'a> {
-    fn new(rule: &'a Rule) -> Closing<'a> {
+    pub(super) fn new(rule: &'a Rule) -> Closing<'a> {
         let mut joins = [Join::default(); 32];
         let mut words = [0; 32];
         let mut count = 0;
@@ -102,7 +102,7 @@ impl<'a> Closing<'a> {
         Closing { rule, joins, count, words }
     }
 
-    fn close(&self, s: &Line) -> Line {
+    pub(super) fn close(&self, s: &Line) -> Line {
         let rule = self.rule;
         let (t, f) = (s[T] | s[A] & rule.weak, s[F] | rule.falses | s[B] & rule.weak);
         let mut tf = (t as u64) << 32 | f as u64;
@@ -120,7 +120,7 @@ impl<'a> Closing<'a> {
     }
 
     /// The nodes whose test is an instruction's, which has the same fields in the same order.
-    fn same_test(&self, word: u32) -> u32 {
+    pub(super) fn same_test(&self, word: u32) -> u32 {
         let op = word >> 28;
         let kind = if op == 13 { 6 } else { op - 4 };
         let stored = kind << 29 | (word >> 10 & 0x3_ffff) << 11;
@@ -128,7 +128,7 @@ impl<'a> Closing<'a> {
     }
 
     /// The past nodes whose next prior is in a set of values.
-    fn next_priors(&self, values: u32) -> u32 {
+    pub(super) fn next_priors(&self, values: u32) -> u32 {
         nodes_of(self.rule.weak).fold(values & self.rule.since, |set, node| {
             let operand = bit(self.rule.nodes[node].left as usize);
             set | if values & operand != 0 { bit(node) } else { 0 }
@@ -232,7 +232,7 @@ impl<'a> Closing<'a> {
 }
 
 /// Whether the facts noted at a line are among others.
-fn among(noted: &Line, facts: &Line) -> bool {
+pub(super) fn among(noted: &Line, facts: &Line) -> bool {
     (1..8).fold(0, |x, k| x | noted[k] & !facts[k]) == 0
 }
 

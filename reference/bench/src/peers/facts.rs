@@ -1,0 +1,193 @@
+//! The largest facts. The lines stand as they will be written and lose facts in place; those that have lost some are looked at again,
+//! rising, round and round. What stands at a line is closed at any time, as what two closed sets share is closed: so only what an
+//! instruction adds has to be closed, and only if the line that follows has facts that are not there without it.
+use super::rule::{bit, nodes_of, Rule, IMPLIES, SINCE, WEAK_PREVIOUS};
+use super::script::{among, check_code, Closing, Line, A, ANNOTATED, B, C, F, M, T, W};
+use super::{no, No};
+
+const NO_NODE: usize = 32;
+
+struct Search<'a> {
+    closing: Closing<'a>,
+    /// The node that each node is an operand of.
+    above: [u8; 32],
+    /// The lines to look at again: line i is bit i % 64 of word i / 64.
+    again: [u64; 16],
+}
+
+impl<'a> Search<'a> {
+    fn new(rule: &'a Rule) -> Search<'a> {
+        let mut above = [NO_NODE as u8; 32];
+        for (i, d) in rule.nodes[..rule.count()].iter().enumerate() {
+            if matches!(d.kind, IMPLIES | SINCE | WEAK_PREVIOUS) {
+                above[d.left as usize & 31] = i as u8;
+            }
+            if matches!(d.kind, IMPLIES | SINCE) {
+                above[d.right as usize & 31] = i as u8;
+            }
+        }
+        Search { closing: Closing::new(rule), above, again: [0; 16] }
+    }
+
+    /// Closes again from a node upwards. A node is an operand once: what follows from it follows at the nodes above it in turn, and no
+    /// further than where nothing new does.
+    fn raise(&self, facts: &mut Line, from: usize) {
+        let mut node = from;
+        while node != NO_NODE {
+            let d = self.closing.rule.nodes[node & 31];
+            let (left, right, at) = (bit(d.left as usize), bit(d.right as usize), bit(node));
+            let has = |fact: usize, of: u32| facts[fact] & of != 0;
+            let (is_true, is_false) = match d.kind {
+                IMPLIES => (has(F, left) || has(T, right), has(T, left) && has(F, right)),
+                SINCE => (has(T, right) || has(T, left) && has(A, at), has(F, right) && (has(F, left) || has(B, at))),
+                _ => (has(A, at), has(B, at)),
+            };
+            let (t, f) = (if is_true { at } else { 0 }, if is_false { at } else { 0 });
+            if t & !facts[T] | f & !facts[F] == 0 {
+                return;
+            }
+            facts[T] |= t;
+            facts[F] |= f;
+            node = self.above[node & 31] as usize;
+        }
+    }
+
+    /// Adds T or F of some nodes.
+    fn add(&self, facts: &mut Line, fact: usize, nodes: u32) {
+        let new = nodes & !facts[fact];
+        facts[fact] |= new;
+        nodes_of(new).for_each(|node| self.raise(facts, self.above[node & 31] as usize));
+    }
+
+    /// A line keeps what is passed on to it.
+    fn keep(&mut self, lines: &mut [Line], to: usize, passed: &Line) {
+        let kept = std::array::from_fn(|k| lines[to][k] & passed[k]);
+        if lines[to] != kept {
+            lines[to] = kept;
+            self.again[to / 64] |= 1 << (to % 64);
+        }
+    }
+
+    /// Passes on facts, and more that are added only if the line that follows has some that are not among them.
+    #[inline(always)]
+    fn keep_more(&mut self, lines: &mut [Line], to: usize, facts: &Line, more: impl FnOnce(&Self, &mut Line)) {
+        if !among(&lines[to], facts) {
+            let mut passed = *facts;
+            more(self, &mut passed);
+            self.keep(lines, to, &passed);
+        }
+    }
+
+    /// What line i passes on; `about` is its test's nodes, or its node.
+    fn push(&mut self, lines: &mut [Line], i: usize, about: u32) {
+        let mut s = lines[i];
+        let word = s[0];
+        // the instruction at a line stays
+        s[0] = !0;
+        let rule = self.closing.rule;
+        let (target, next) = ((word & 0x3ff) as usize, i + 1);
+        let node = (word >> 10 & 31) as usize;
+        match word >> 28 {
+            0 => {}
+            1..=4 | 14 => {
+                let open = [!0, s[A] & rule.weak, s[B] & rule.weak | rule.falses, s[A], s[B], s[M], 0, s[C]];
+                self.keep_more(lines, next, &open, |search, p| *p = search.closing.close(p));
+            }
+            5 | 6 | 13 => {
+                self.keep_more(lines, target, &s, |search, p| search.add(p, T, about));
+                self.keep_more(lines, next, &s, |search, p| search.add(p, F, about));
+            }
+            7 => self.keep(lines, target, &s),
+            8 => {
+                let (a, b) = (self.closing.next_priors(s[T]), self.closing.next_priors(s[F]));
+                let open = [!0, 0, 0, a, b, 0, 0, s[W]];
+                self.keep_more(lines, next, &open, |search, p| *p = search.closing.close(p));
+            }
+            9 => {
+                let (value, prior) = if word >> 24 & 1 == 1 { (T, A) } else { (F, B) };
+                let known = s[value] & bit(rule.next_prior(node)) != 0;
+                let mut p = s;
+                p[W] = s[W] & !about | if known { about } else { 0 };
+                p[C] = s[C] & !about | s[prior] & about;
+                self.keep(lines, next, &p);
+            }
+            10 | 11 => {
+                let (knows_prior, knows_value) = if word >> 28 == 10 { (s[M], 0) } else { (s[C], s[W]) };
+                let prior = knows_prior & about;
+                let value = if knows_value & about != 0 { bit(rule.next_prior(node)) } else { 0 };
+                let more = |search: &Self, p: &mut Line, value_fact: usize, prior_fact: usize| {
+                    p[prior_fact] |= prior;
+                    search.add(p, value_fact, value);
+                    search.raise(p, node);
+                };
+                self.keep_more(lines, target, &s, |search, p| more(search, p, T, A));
+                self.keep_more(lines, next, &s, |search, p| more(search, p, F, B));
+            }
+            _ => {
+                let mut p = s;
+                p[M] = s[M] & !about | s[C] & about;
+                self.keep(lines, next, &p);
+            }
+        }
+    }
+
+    /// The largest facts, from lines that have instructions only.
+    fn settle(&mut self, lines: &mut [Line], about: &mut [u32]) {
+        let rule = self.closing.rule;
+        let (past, all) = (rule.past(), !0 << (32 - rule.count()));
+        for (i, (line, about)) in lines.iter_mut().zip(about.iter_mut()).enumerate() {
+            let word = line[0];
+            *line = [word, all, all, past, past, past, past, past];
+            *about = match word >> 28 {
+                5 | 6 | 13 => self.closing.same_test(word),
+                9..=12 => bit((word >> 10 & 31) as usize),
+                _ => 0,
+            };
+            self.again[i / 64] |= 1 << (i % 64);
+        }
+        lines[0] = self.closing.close(&[lines[0][0], 0, 0, rule.weak, rule.since, past, 0, 0]);
+        while self.again != [0; 16] {
+            for k in 0..16 {
+                while self.again[k] != 0 {
+                    let i = 64 * k + self.again[k].trailing_zeros() as usize;
+                    self.again[k] &= self.again[k] - 1;
+                    self.push(lines, i, about[i]);
+                }
+            }
+        }
+    }
+}
+
+/// Ones over the seven words of every line.
+fn count(lines: &[Line]) -> usize {
+    let ones = |words: u32| words as usize;
+    let all: usize = lines.iter().map(|l| ones(l.iter().map(|w| w.count_ones()).sum())).sum();
+    let instructions: usize = lines.iter().map(|l| ones(l[0].count_ones())).sum();
+    all - instructions
+}
+
+/// Questions 1 to 7, 19 and 13, then the lines: how many facts there are.
+pub fn find_facts(words: &[u32], instructions: &[u32], out: &mut [u32]) -> Result<usize, No> {
+    let rule = Rule::read(words)?;
+    let n = check_code(&rule, instructions, 1, ANNOTATED)?;
+    // a short script clears little memory
+    let (mut few, mut many);
+    let (lines, about): (&mut [Line], &mut [u32]) = if n <= 64 {
+        few = ([[0; 8]; 64], [0; 64]);
+        (&mut few.0[..n], &mut few.1[..n])
+    } else {
+        many = ([[0; 8]; 1024], [0; 1024]);
+        (&mut many.0[..n], &mut many.1[..n])
+    };
+    lines.iter_mut().zip(instructions).for_each(|(line, &word)| line[0] = word);
+    Search::new(&rule).settle(lines, about);
+    let last = bit(rule.count() - 1);
+    if let Some(i) = lines.iter().position(|l| l[0] >> 28 == 8 && l[T] & last == 0) {
+        return no(19, i);
+    }
+    if out.len() < 8 * n {
+        return no(13, 0);
+    }
+    out.chunks_exact_mut(8).zip(lines.iter()).for_each(|(words, line)| words.copy_from_slice(line));
+    Ok(count(lines))
+}
