@@ -1,4 +1,5 @@
 //! The peers' answers to random requests are the proved code's: what is timed is the same work.
+use crate::peers::facts::find_facts;
 use crate::peers::judge::{many_at_once, one_at_a_time};
 use crate::peers::machine::{run, step};
 use crate::peers::rule::Rule;
@@ -33,6 +34,14 @@ fn agree_on(request: Request) {
             let mut peer_out = out.clone();
             let result = proved::weave(&rule, &bare, &mut out, &mut p);
             let peer = weave(&rule, &bare, &mut peer_out);
+            assert_eq!(p[1], *peer.as_ref().unwrap_or(&0) as u64);
+            assert!((result, p[0]) == numbers(peer) && out == peer_out);
+        }
+        Request::Facts { rule, instructions, mut out, .. } => {
+            let mut p = [0; 2];
+            let mut peer_out = out.clone();
+            let result = proved::facts(&rule, &instructions, &mut out, &mut p);
+            let peer = find_facts(&rule, &instructions, &mut peer_out);
             assert_eq!(p[1], *peer.as_ref().unwrap_or(&0) as u64);
             assert!((result, p[0]) == numbers(peer) && out == peer_out);
         }

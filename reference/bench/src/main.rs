@@ -257,9 +257,98 @@ fn text_rows() -> Vec<Row> {
     rows
 }
 
+/// "register 1 = 1" under a chain of 31 weak previouses: round a loop with a present, one fact after the other is lost.
+fn chain() -> Vec<u32> {
+    let weak_previous = |k: u32| 5 << 29 | (k - 1) << 6;
+    std::iter::once(0x2200_0800).chain((1..32).map(weak_previous)).collect()
+}
+
+/// A present, and 1,022 gos that lead from it back to it, from the last line down; line 0 goes to the last line.
+fn backwards() -> Vec<u32> {
+    let go = |target: usize| instruction(7, 0, 0, target as u32);
+    let line = |i: usize| match i {
+        0 | 2 => go(1023),
+        1 => instruction(8, 0, 0, 0),
+        3 => go(1),
+        _ => go(i - 1),
+    };
+    (0..1024).map(line).collect()
+}
+
+/// The same loop laid forwards: 1,022 inputs, the present, a go to line 0.
+fn forwards() -> Vec<u32> {
+    let mut words = vec![instruction(4, 0, 0, 0); 1022];
+    words.extend([instruction(8, 0, 0, 0), instruction(7, 0, 0, 0)]);
+    words
+}
+
+/// The loop laid backwards with a guard that knows the last node before each present: all 32 nodes' kept bits are right, and the last
+/// one is asked. Round the loop every fact but M is lost, one after the other.
+fn guarded_backwards() -> Vec<u32> {
+    let mut words = vec![instruction(7, 0, 0, 1023)];
+    // the bits of the chain: each is its operand's value, the operand's kept bit
+    words.extend([instruction(5, 1, 1, 4), instruction(9, 0, 1, 0), instruction(7, 0, 0, 5), instruction(9, 1, 1, 0)]);
+    for node in 2..32 {
+        let at = words.len() as u32;
+        words.extend([instruction(10, 0, node - 1, at + 3), instruction(9, 0, node, 0), instruction(7, 0, 0, at + 4), instruction(9, 1, node, 0)]);
+    }
+    let at = words.len() as u32;
+    words.extend([instruction(10, 0, 31, at + 2), instruction(7, 0, 0, 1023), instruction(8, 0, 0, 0)]);
+    words.extend((1..32).map(|node| instruction(12, 0, node, 0)));
+    words.extend([instruction(7, 0, 0, 1023), instruction(7, 0, 0, 1)]);
+    while words.len() < 1024 {
+        words.push(instruction(7, 0, 0, words.len() as u32 - 1));
+    }
+    words
+}
+
+fn facts_rows() -> Vec<Row> {
+    let mut asked: Vec<(String, Vec<u32>, Vec<u32>)> = vec![];
+    for (name, rule) in [RULES[0], RULES[3]] {
+        let block = check_rule(rule).expect("a rule").block_lines();
+        for lines in [128, 256, 512, 1024] {
+            if lines >= block + 3 {
+                let stripped = woven(rule, &bare_for(block, lines)).iter().step_by(8).copied().collect();
+                asked.push((format!("{name}, {} nodes, woven", rule.len()), rule.to_vec(), stripped));
+            }
+        }
+    }
+    for (name, instructions) in [("forwards", forwards()), ("backwards", backwards()), ("backwards and guarded", guarded_backwards())] {
+        asked.push((format!("chain, 32 nodes, laid {name}"), chain(), instructions));
+    }
+    asked.into_iter().map(|(name, rule, instructions)| facts_row(&name, rule, instructions)).collect()
+}
+
+fn facts_row(name: &str, rule: Vec<u32>, instructions: Vec<u32>) -> Row {
+    let lines = instructions.len();
+    let (mut out, mut peer_out, mut n) = (vec![0; 8 * lines], vec![0; 8 * lines], [0; 2]);
+    let result = proved::facts(&rule, &instructions, &mut out, &mut n);
+    let peer = match peers::facts::find_facts(&rule, &instructions, &mut peer_out) {
+        Ok(count) => (0, [0, count as u64]),
+        Err(no) => (no.number, [no.place as u64, 0]),
+    };
+    assert!((result, n) == peer && out == peer_out);
+    let answer = if result == 0 { format!("{} facts", n[1]) } else { format!("refused ({result})") };
+    let (peer_rule, peer_instructions) = (rule.clone(), instructions.clone());
+    Row::new(
+        format!("find_facts {name}, {lines} lines, {answer}"),
+        "line",
+        lines,
+        vec![
+            Box::new(move || {
+                black_box(proved::facts(black_box(&rule), black_box(&instructions), &mut out, &mut n));
+            }),
+            Box::new(move || {
+                black_box(peers::facts::find_facts(black_box(&peer_rule), black_box(&peer_instructions), &mut peer_out).is_ok());
+            }),
+        ],
+    )
+}
+
 fn main() {
     agree::agree(20_000);
     let mut rows = script_rows();
+    rows.extend(facts_rows());
     rows.extend(run_rows());
     rows.push(step_row());
     rows.extend(text_rows());
