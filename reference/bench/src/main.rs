@@ -282,11 +282,11 @@ fn forwards() -> Vec<u32> {
     words
 }
 
-/// The loop laid backwards with a guard that knows the last node before each present: all 32 nodes' kept bits are right, and the last
-/// one is asked. Round the loop every fact but M is lost, one after the other.
+/// The loop laid backwards with a guard for the chain in it, which is accepted: the work bit of each weak previous becomes its operand's
+/// value, and the kept bit of the last is asked. Round the loop all but M is lost, of one node after the other.
 fn guarded_backwards() -> Vec<u32> {
     let mut words = vec![instruction(7, 0, 0, 1023)];
-    // the bits of the chain: each is its operand's value, the operand's kept bit
+    // the test's value, then the kept bits of the operands
     words.extend([instruction(5, 1, 1, 4), instruction(9, 0, 1, 0), instruction(7, 0, 0, 5), instruction(9, 1, 1, 0)]);
     for node in 2..32 {
         let at = words.len() as u32;

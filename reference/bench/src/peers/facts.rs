@@ -7,10 +7,15 @@ use super::{no, No};
 
 const NO_NODE: usize = 32;
 
+/// Facts are met eight words at a time; the instruction stays.
+const STAYS: Line = [!0, 0, 0, 0, 0, 0, 0, 0];
+
 struct Search<'a> {
     closing: Closing<'a>,
     /// The node that each node is an operand of.
     above: [u8; 32],
+    /// The nodes whose values may follow from their operands' values.
+    joins: u32,
     /// The lines to look at again: line i is bit i % 64 of word i / 64.
     again: [u64; 16],
 }
@@ -18,15 +23,17 @@ struct Search<'a> {
 impl<'a> Search<'a> {
     fn new(rule: &'a Rule) -> Search<'a> {
         let mut above = [NO_NODE as u8; 32];
+        let mut joins = 0;
         for (i, d) in rule.nodes[..rule.count()].iter().enumerate() {
             if matches!(d.kind, IMPLIES | SINCE | WEAK_PREVIOUS) {
                 above[d.left as usize & 31] = i as u8;
             }
             if matches!(d.kind, IMPLIES | SINCE) {
                 above[d.right as usize & 31] = i as u8;
+                joins |= bit(i);
             }
         }
-        Search { closing: Closing::new(rule), above, again: [0; 16] }
+        Search { closing: Closing::new(rule), above, joins, again: [0; 16] }
     }
 
     /// Closes again from a node upwards. A node is an operand once: what follows from it follows at the nodes above it in turn, and no
@@ -60,11 +67,25 @@ impl<'a> Search<'a> {
     }
 
     /// A line keeps what is passed on to it.
+    #[inline(always)]
     fn keep(&mut self, lines: &mut [Line], to: usize, passed: &Line) {
-        let kept = std::array::from_fn(|k| lines[to][k] & passed[k]);
-        if lines[to] != kept {
+        let old = lines[to];
+        let kept: Line = std::array::from_fn(|k| old[k] & (passed[k] | STAYS[k]));
+        if (0..8).fold(0, |lost, k| lost | old[k] ^ kept[k]) != 0 {
             lines[to] = kept;
             self.again[to / 64] |= 1 << (to % 64);
+        }
+    }
+
+    /// Passes on priors and bits, and what follows from these.
+    #[inline(always)]
+    fn keep_priors(&mut self, lines: &mut [Line], to: usize, a: u32, b: u32, m: u32, c: u32) {
+        let rule = self.closing.rule;
+        let (t, f) = (a & rule.weak, b & rule.weak | rule.falses);
+        if (lines[to][T] & !t | lines[to][F] & !f) & self.joins != 0 {
+            self.keep(lines, to, &self.closing.close(&[0, t, f, a, b, m, 0, c]));
+        } else {
+            self.keep(lines, to, &[0, t, f, a, b, m, 0, c]);
         }
     }
 
@@ -80,19 +101,14 @@ impl<'a> Search<'a> {
 
     /// What line i passes on; `about` is its test's nodes, or its node.
     fn push(&mut self, lines: &mut [Line], i: usize, about: u32) {
-        let mut s = lines[i];
+        let s = lines[i];
         let word = s[0];
-        // the instruction at a line stays
-        s[0] = !0;
         let rule = self.closing.rule;
         let (target, next) = ((word & 0x3ff) as usize, i + 1);
         let node = (word >> 10 & 31) as usize;
         match word >> 28 {
             0 => {}
-            1..=4 | 14 => {
-                let open = [!0, s[A] & rule.weak, s[B] & rule.weak | rule.falses, s[A], s[B], s[M], 0, s[C]];
-                self.keep_more(lines, next, &open, |search, p| *p = search.closing.close(p));
-            }
+            1..=4 | 14 => self.keep_priors(lines, next, s[A], s[B], s[M], s[C]),
             5 | 6 | 13 => {
                 self.keep_more(lines, target, &s, |search, p| search.add(p, T, about));
                 self.keep_more(lines, next, &s, |search, p| search.add(p, F, about));
@@ -100,8 +116,7 @@ impl<'a> Search<'a> {
             7 => self.keep(lines, target, &s),
             8 => {
                 let (a, b) = (self.closing.next_priors(s[T]), self.closing.next_priors(s[F]));
-                let open = [!0, 0, 0, a, b, 0, 0, s[W]];
-                self.keep_more(lines, next, &open, |search, p| *p = search.closing.close(p));
+                self.keep_priors(lines, next, a, b, 0, s[W]);
             }
             9 => {
                 let (value, prior) = if word >> 24 & 1 == 1 { (T, A) } else { (F, B) };
@@ -158,36 +173,37 @@ impl<'a> Search<'a> {
     }
 }
 
-/// Ones over the seven words of every line.
+/// Ones over the seven words of every line. Whole lines are counted, many words at a time; then the instructions' ones go.
 fn count(lines: &[Line]) -> usize {
-    let ones = |words: u32| words as usize;
-    let all: usize = lines.iter().map(|l| ones(l.iter().map(|w| w.count_ones()).sum())).sum();
-    let instructions: usize = lines.iter().map(|l| ones(l[0].count_ones())).sum();
-    all - instructions
+    let all: u32 = lines.iter().flatten().map(|w| w.count_ones()).sum();
+    let instructions: u32 = lines.iter().map(|l| l[0].count_ones()).sum();
+    (all - instructions) as usize
 }
 
-/// Questions 1 to 7, 19 and 13, then the lines: how many facts there are.
-pub fn find_facts(words: &[u32], instructions: &[u32], out: &mut [u32]) -> Result<usize, No> {
-    let rule = Rule::read(words)?;
-    let n = check_code(&rule, instructions, 1, ANNOTATED)?;
-    // a short script clears little memory
-    let (mut few, mut many);
-    let (lines, about): (&mut [Line], &mut [u32]) = if n <= 64 {
-        few = ([[0; 8]; 64], [0; 64]);
-        (&mut few.0[..n], &mut few.1[..n])
-    } else {
-        many = ([[0; 8]; 1024], [0; 1024]);
-        (&mut many.0[..n], &mut many.1[..n])
-    };
+/// Questions 19 and 13, then the lines: how many facts there are. As many lines as `MOST` have room.
+fn find_in<const MOST: usize>(rule: &Rule, instructions: &[u32], out: &mut [u32]) -> Result<usize, No> {
+    let mut room = [[0; 8]; MOST];
+    let mut about = [0; MOST];
+    let lines = &mut room[..instructions.len()];
     lines.iter_mut().zip(instructions).for_each(|(line, &word)| line[0] = word);
-    Search::new(&rule).settle(lines, about);
+    Search::new(rule).settle(lines, &mut about);
     let last = bit(rule.count() - 1);
     if let Some(i) = lines.iter().position(|l| l[0] >> 28 == 8 && l[T] & last == 0) {
         return no(19, i);
     }
-    if out.len() < 8 * n {
+    if out.len() < 8 * lines.len() {
         return no(13, 0);
     }
     out.chunks_exact_mut(8).zip(lines.iter()).for_each(|(words, line)| words.copy_from_slice(line));
     Ok(count(lines))
+}
+
+/// Questions 1 to 7, 19 and 13, then the lines: how many facts there are. A short script clears little memory.
+pub fn find_facts(words: &[u32], instructions: &[u32], out: &mut [u32]) -> Result<usize, No> {
+    let rule = Rule::read(words)?;
+    if check_code(&rule, instructions, 1, ANNOTATED)? <= 128 {
+        find_in::<128>(&rule, instructions, out)
+    } else {
+        find_in::<1024>(&rule, instructions, out)
+    }
 }
