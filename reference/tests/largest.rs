@@ -96,16 +96,7 @@ fn present_before_its_guard() {
 /// The accident of crates/checker/README.md keeps the bit of a presentation that is not made yet.
 #[test]
 fn accident() {
-    let mut lines = vec![
-        line(4, 1, 0, 0),
-        line(4, 2, 0, 0),
-        line(5, 2, 1, 4),
-        go(0),
-        line(9, 1, 2, 0),
-        line(12, 0, 2, 0),
-        PRESENT,
-        go(0),
-    ];
+    let mut lines = vec![line(4, 1, 0, 0), line(4, 2, 0, 0), line(5, 2, 1, 4), go(0), line(9, 1, 2, 0), line(12, 0, 2, 0), PRESENT, go(0)];
     // Its noted M of line 6 is what the checker refuses. Without facts it is accepted: the test of line 2 alone makes the rule true,
     // and the largest facts claim M nowhere.
     let (found, _) = find(&SINCE, &lines).unwrap();
@@ -327,7 +318,8 @@ fn every_obeying(rule: &Rule, lines: &mut [Line], at: usize, left: &mut u32, put
         }
         *left -= 1;
         lines[at].facts = facts;
-        let obeys = (0..=at).all(|follower| to(&lines[at], at, follower).map_or(true, |f| lines[follower].facts.among(&f)));
+        let refused = |follower: usize| to(&lines[at], at, follower).is_some_and(|f| !lines[follower].facts.among(&f));
+        let obeys = !(0..=at).any(refused);
         if obeys && !every_obeying(rule, lines, at + 1, left, put) {
             return false;
         }
@@ -366,7 +358,9 @@ fn every_obeying_annotation_of_random_scripts() {
         }
         match answer {
             Ok((found, _)) => assert!(found.iter().map(|l| l.facts).eq(together) && noted.contains(&found)),
-            Err(refusal) => assert_eq!(lines.iter().zip(&together).position(|(l, f)| l.op == 8 && !f.has(T, rule.last())), Some(refusal.place)),
+            Err(refusal) => {
+                assert_eq!(lines.iter().zip(&together).position(|(l, f)| l.op == 8 && !f.has(T, rule.last())), Some(refusal.place))
+            }
         }
     }
     println!("{seen:?}, too many annotations {too_many}");

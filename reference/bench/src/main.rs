@@ -285,19 +285,20 @@ fn forwards() -> Vec<u32> {
 /// The loop laid backwards with a guard for the chain in it, which is accepted: the work bit of each weak previous becomes its operand's
 /// value, and the kept bit of the last is asked. Round the loop all but M is lost, of one node after the other.
 fn guarded_backwards() -> Vec<u32> {
-    let mut words = vec![instruction(7, 0, 0, 1023)];
+    let i = instruction;
+    let mut words = vec![i(7, 0, 0, 1023)];
     // the test's value, then the kept bits of the operands
-    words.extend([instruction(5, 1, 1, 4), instruction(9, 0, 1, 0), instruction(7, 0, 0, 5), instruction(9, 1, 1, 0)]);
+    words.extend([i(5, 1, 1, 4), i(9, 0, 1, 0), i(7, 0, 0, 5), i(9, 1, 1, 0)]);
     for node in 2..32 {
         let at = words.len() as u32;
-        words.extend([instruction(10, 0, node - 1, at + 3), instruction(9, 0, node, 0), instruction(7, 0, 0, at + 4), instruction(9, 1, node, 0)]);
+        words.extend([i(10, 0, node - 1, at + 3), i(9, 0, node, 0), i(7, 0, 0, at + 4), i(9, 1, node, 0)]);
     }
     let at = words.len() as u32;
-    words.extend([instruction(10, 0, 31, at + 2), instruction(7, 0, 0, 1023), instruction(8, 0, 0, 0)]);
-    words.extend((1..32).map(|node| instruction(12, 0, node, 0)));
-    words.extend([instruction(7, 0, 0, 1023), instruction(7, 0, 0, 1)]);
+    words.extend([i(10, 0, 31, at + 2), i(7, 0, 0, 1023), i(8, 0, 0, 0)]);
+    words.extend((1..32).map(|node| i(12, 0, node, 0)));
+    words.extend([i(7, 0, 0, 1023), i(7, 0, 0, 1)]);
     while words.len() < 1024 {
-        words.push(instruction(7, 0, 0, words.len() as u32 - 1));
+        words.push(i(7, 0, 0, words.len() as u32 - 1));
     }
     words
 }

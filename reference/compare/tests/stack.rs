@@ -110,8 +110,8 @@ fn put(stacks: &mut Stacks, most: &mut Most, request: &Request) {
             let (o, space) = (out.as_mut_ptr(), out.len());
             let (n, length) = (numbers.as_mut_ptr(), numbers.len());
             let function = face::guard_facts as unsafe extern "C" fn(_, _, _, _, _, _, _, _) -> _;
-            let call = |f: unsafe extern "C" fn(_, _, _, _, _, _, _, _) -> _| unsafe { f(rule.as_ptr(), rule.len(), i, words, o, space, n, length) };
-            note("FACTS", taken(&mut *stacks.facts, function, call));
+            let stack = &mut *stacks.facts;
+            note("FACTS", taken(stack, function, |f| unsafe { f(rule.as_ptr(), rule.len(), i, words, o, space, n, length) }));
         }
         Request::Judge { rule, history, mut numbers } => {
             let (h, space) = (history.as_ptr(), history.len());
