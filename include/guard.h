@@ -12,15 +12,15 @@
  * function may write overlaps no other array of the same call, and no other thread uses it during the call. Every length is
  * allowed; nothing is read or written past it.
  *
- * THE NUMBER HANDED BACK is 0, or 1 to 18: the question that has a no (enum guard_question), or GUARD_TOO_SHORT where the lent
+ * THE NUMBER HANDED BACK is 0, or 1 to 19: the question that has a no (enum guard_question), or GUARD_TOO_SHORT where the lent
  * `numbers` or `state` is shorter than the function needs, or (guard_step alone) GUARD_TOO_LARGE.
  *
  * THE OTHER NUMBERS of an answer go into the first elements of `numbers`, as many as the function's GUARD_..._NUMBERS; elements
- * after these stay as they were. On a refusal (1 to 18) numbers[GUARD_PLACE] is the place and every other number of the answer
+ * after these stay as they were. On a refusal (1 to 19) numbers[GUARD_PLACE] is the place and every other number of the answer
  * is 0; otherwise the place is 0.
  *
- * WHAT A REFUSAL LEAVES UNTOUCHED. With 1 to 18 the output of guard_text and guard_weave and the history of guard_run are as they
- * were. With GUARD_TOO_SHORT and GUARD_TOO_LARGE nothing at all is written, `numbers` and `state` included.
+ * WHAT A REFUSAL LEAVES UNTOUCHED. With 1 to 19 the output of guard_text, guard_weave and guard_facts and the history of guard_run
+ * are as they were. With GUARD_TOO_SHORT and GUARD_TOO_LARGE nothing at all is written, `numbers` and `state` included.
  *
  * FORMATS. A rule is 1 to 32 nodes, one 32-bit word each, from the most significant bit: kind 3 bits, register 4, constant 14,
  * left 5, right 5, a zero bit; an operand is a node's number, from 0. A bare script is 1 to 1,024 lines of one 32-bit word:
@@ -33,7 +33,8 @@
  * STACK. A proof knows nothing of the stack, so what a call takes was measured: on a painted stack, with rules as deeply nested as
  * question 4 allows, full scripts and random requests (reference/compare/tests/stack.rs, which also holds enum guard_stack to it).
  * The numbers are for libguard.a, which is x86-64; another compiler's are its own. No call takes more for a longer input. Only
- * guard_weave calls itself inside, once for each implies around a node, so it takes the most.
+ * guard_weave calls itself inside, once for each implies around a node; guard_facts has the notes of its search there, 57 KB, so it
+ * takes the most.
  */
 #ifndef GUARD_H
 #define GUARD_H
@@ -45,8 +46,8 @@
 extern "C" {
 #endif
 
-/* The questions, in the order in which they are put, but for a text: 16, 17, 18, then 13. Each is put to the whole input before
- * the next. In brackets what the place counts, from 0; the others have place 0. */
+/* The questions, in the order in which they are put, but for a text: 16, 17, 18, then 13, and for facts to be found: 1 to 7,
+ * 19, then 13. Each is put to the whole input before the next. In brackets what the place counts, from 0; the others have place 0. */
 enum guard_question {
     GUARD_YES = 0,                /* every question has a yes */
     GUARD_NODE_COUNT = 1,         /* has the rule 1 to 32 nodes? */
@@ -62,13 +63,15 @@ enum guard_question {
     GUARD_PRESENT_KNOWN = 10,     /* at each present, is the rule known to be true? (line) */
     GUARD_FACTS_FOLLOW = 11,      /* are the facts noted at each following line among those passed on? (the line passing) */
     GUARD_WOVEN_LINES = 12,       /* has the woven script at most 1,024 lines? */
-    GUARD_OUTPUT_WORDS = 13,      /* are there enough words in the output, eight for a woven line, one for a text's node? */
+    GUARD_OUTPUT_WORDS = 13,      /* are there enough words in the output, eight for an annotated line, one for a text's node? */
     GUARD_HISTORY_LENGTH = 14,    /* is the history's length a multiple of 16? */
     GUARD_NUMBERS_SMALL = 15,     /* are all numbers of the history, or of the inputs, at most 16,383? (position) */
     GUARD_TEXT_GRAMMAR = 16,      /* is the text one of the grammar? (the first byte that no continuation could follow, or the
                                      length where the text ends too soon) */
     GUARD_TEXT_RANGE = 17,        /* are registers at most 15, numbers at most 16,383? (the first byte of the number) */
     GUARD_TEXT_NODE_COUNT = 18,   /* has the rule that the text stands for at most 32 nodes? */
+    GUARD_PRESENT_LOST = 19,      /* at each present, is the rule known to be true by the largest facts? If not, no facts whatever get
+                                     these instructions accepted (line) */
     GUARD_TOO_LARGE = 98,         /* guard_step: a register in `state` is above 65,535 */
     GUARD_TOO_SHORT = 99          /* `numbers` or `state` is shorter than the function needs */
 };
@@ -89,6 +92,7 @@ enum guard_stack {
     GUARD_STACK_BARE = 256,
     GUARD_STACK_SCRIPT = 896,
     GUARD_STACK_WEAVE = 5248,
+    GUARD_STACK_FACTS = 59008,
     GUARD_STACK_JUDGE = 256,
     GUARD_STACK_RUN = 1024,
     GUARD_STACK_FRESH = 128,
@@ -152,6 +156,24 @@ enum {
     GUARD_WEAVE_NUMBERS = 2
 };
 uint32_t guard_weave(const uint32_t *rule, size_t rule_length, const uint32_t *bare, size_t bare_length,
+                     uint32_t *out, size_t out_length, uint64_t *numbers, size_t numbers_length);
+
+/* Finds facts for instructions that have none, so that guard_script accepts them: questions 1 to 7, 19 and 13. `instructions` has one
+ * word a line, as a bare script, with the opcodes of annotated scripts, 0 to 14. The annotated script goes to the first 8 x lines
+ * words of `out`: the instructions, each with the largest facts that the checker accepts there; any other facts that it accepts lie
+ * within them. A line that nothing leads to (but the first) gets every fact that belongs, so that T and F of one node may stand
+ * together there. Later words of `out` stay.
+ *
+ * 19 names the lowest present at which the rule is not known to be true by the largest facts; then no facts whatever would get these
+ * instructions accepted. It is put before 13, so that an output of no words serves to ask for it.
+ *
+ * The search has memory of its own on the stack (GUARD_STACK_FACTS): seven sets of 64 nodes for each of 1,024 lines, however few the
+ * lines are. */
+enum {
+    GUARD_FACTS_COUNT = 1,        /* how many facts were written: the ones over the seven sets of each line */
+    GUARD_FACTS_NUMBERS = 2
+};
+uint32_t guard_facts(const uint32_t *rule, size_t rule_length, const uint32_t *instructions, size_t instructions_length,
                      uint32_t *out, size_t out_length, uint64_t *numbers, size_t numbers_length);
 
 /* Looks for the first presentation of a history at which the rule was false: questions 1 to 4, 14 and 15. The offending state is

@@ -1,5 +1,6 @@
 -- The laws of the search (`specs/Rows.antt`): each step keeps what is known, and the end has the largest notes.
---     room-line, room-all, room-same, few-nodes, names-at, target-in, next-in    what questions 1 to 7 say of a line
+--     room-line, room-all, room-same, few-nodes, rule-passed, names-at, target-in, next-in    what questions 1 to 7 say of a line
+--     facts-closed                        a line's notes are closed
 --     Leads, leads, push-done             a line pushed
 --     swept-start, swept-next, swept-end  a sweep
 --     Settling, settling-start, settling-next, left, left-less    sweeps, and their measure
@@ -20,7 +21,8 @@ use lib.ListN.{length, getD, set, length-set, replicate, length-replicate}
 use lib.Seq.{getD-set-same, getD-set-other}
 use lib.Dec.{ltb}
 use borrow.Author.Tests.{ltb-true}
-use Rattle.spec.specs.Rule.{form32, Table, tableOf}
+use Rattle.spec.specs.Questions.{passed}
+use Rattle.spec.specs.Rule.{form32, Table, tableOf, checkRule}
 use Rattle.spec.specs.Script.{fieldsOf, instructionRead, Code, bareCode, instructionAt, targetOf, goesOn, namesAllowed, isLine, followersExist}
 use Rattle.spec.specs.Facts.{Fact, wordNumber, Facts, _⊑_, belongs, close, pass, firstFacts}
 use Rattle.spec.specs.Check.{passedOn}
@@ -64,6 +66,15 @@ module _ (rule ws : List ℕ) (asked : Asked rule ws) where
   pub few-nodes : length rule ≤ capacity
   unfolding form32
   few-nodes = omega (arith, ready form32 rule ws asked .few, length-table form32 rule)
+
+  pub rule-passed : checkRule form32 rule ≡ passed tt
+  rule-passed = ready form32 rule ws asked .rule-passed
+
+  -- the notes are closed
+  pub facts-closed : (notes flags : List ℕ) → Search (tableIn rule) (bareCode ws) notes flags → (l : ℕ) → l < length ws → (F : Facts) → F ≡ notesAt notes l
+      → close (tableIn rule) F ≡ F
+  facts-closed notes flags s l h F e =
+      fun-ext (λ f. fun-ext (λ k. bool-ext _ _ (subst (λ G. close (tableIn rule) G ⊑ G) (sym e) (s .closed l (omega (arith, length-bare ws))) f k) (extends (tableIn rule) F f k)))
 
   pub some-node : 0 < length rule
   some-node = omega (arith, ready form32 rule ws asked .some-node, length-table form32 rule)
@@ -123,7 +134,6 @@ leads rule ws l jumps onward F h to on =
 module _ (t : Table) (ordered : InOrder t) (code : Code) (notes flags : List ℕ) (l : ℕ) (o p : Option ℕ) (Y N : Facts)
     (notes′ flags′ : List ℕ) (r : Bool) (d : Spread notes flags l o p Y N notes′ flags′ r) (w : Leads t code l o p (notesAt notes l) Y N)
     (s : Search t code notes flags) where
-  -- the notes are closed
   closed-already : close t (notesAt notes l) ≡ notesAt notes l
   closed-already = fun-ext (λ f. fun-ext (λ k. bool-ext _ _ (s .closed l (w .a-line) f k) (extends t (notesAt notes l) f k)))
 

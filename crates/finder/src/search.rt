@@ -15,11 +15,12 @@ use script::line::has_target;
 ghost use mathlib.Core.Path.{_≡_};
 ghost use mathlib.Core.Bool.{cond, true};
 ghost use mathlib.Core.Option.{none, some};
-ghost use Prim.Native.Nat.{_≤_, _<_};
+ghost use Prim.Native.Nat.{_<_};
 ghost use lib.ListN.{length};
+ghost use Rattle.spec.specs.Questions.{passed};
+ghost use Rattle.spec.specs.Rule.{form32, checkRule};
 ghost use Rattle.spec.specs.Script.{bareCode, instructionRead, namesAllowed};
 ghost use Rattle.spec.specs.Facts.{close, pass};
-ghost use Rattle.sets.specs.Sets.{capacity};
 ghost use Rattle.checker.specs.FactSets.{factsOf};
 ghost use Rattle.finder.specs.Rows.{tableIn, HasLine, Room, Asked, WayDone, Search, Pushed, Swept, Settled, LargestAt};
 
@@ -34,8 +35,8 @@ fn push_to(
     notes: &mut [u64],
     flags: &mut [u64],
 ) -> bool
-    requires { ⌜ (length (now rule) ≤ capacity) × (namesAllowed (tableIn (now rule)) (instructionRead word) ≡ true)
-        × (follows ≡ true → HasLine m (now notes) (now flags)) ⌝ }
+    requires { ⌜ (checkRule form32 (now rule) ≡ passed tt) × (namesAllowed (tableIn (now rule)) (instructionRead word) ≡ true)
+        × (close (tableIn (now rule)) (factsOf x) ≡ factsOf x) × (follows ≡ true → HasLine m (now notes) (now flags)) ⌝ }
     ensures { λ r. ⌜ WayDone (now (notes .entry)) (now (flags .entry)) (cond follows (some m) none)
         (close (tableIn (now (rule .entry))) (pass (tableIn (now (rule .entry))) (instructionRead word) taken (factsOf x)))
         (now (notes .exit)) (now (flags .exit)) r ⌝ }
@@ -49,7 +50,8 @@ fn push_to(
 
 // Line l's followers keep what it passes on. Whether some notes changed.
 fn push(rule: &[u32], code: &[u32], notes: &mut [u64], flags: &mut [u64], l: usize) -> bool
-    requires { ⌜ Asked (now rule) (now code) × Room (length (now code)) (now notes) (now flags) × (l < length (now code)) ⌝ }
+    requires { ⌜ Asked (now rule) (now code) × Room (length (now code)) (now notes) (now flags) × (l < length (now code))
+        × Search (tableIn (now rule)) (bareCode (now code)) (now notes) (now flags) ⌝ }
     ensures { λ r. ⌜ Pushed (now (rule .entry)) (now (code .entry)) (now (notes .entry)) (now (flags .entry)) l (now (notes .exit)) (now (flags .exit)) r ⌝ }
 {
     let word = code[l];
@@ -63,7 +65,8 @@ fn push(rule: &[u32], code: &[u32], notes: &mut [u64], flags: &mut [u64], l: usi
 
 // Every line with a flag is pushed, in rising order, also those that get one on the way. Whether some notes changed.
 fn sweep(rule: &[u32], code: &[u32], notes: &mut [u64], flags: &mut [u64]) -> bool
-    requires { ⌜ Asked (now rule) (now code) × Room (length (now code)) (now notes) (now flags) ⌝ }
+    requires { ⌜ Asked (now rule) (now code) × Room (length (now code)) (now notes) (now flags)
+        × Search (tableIn (now rule)) (bareCode (now code)) (now notes) (now flags) ⌝ }
     ensures { λ r. ⌜ Swept (now (rule .entry)) (now (code .entry)) (now (notes .entry)) (now (flags .entry)) (now (notes .exit)) (now (flags .exit)) r (length (now (code .entry))) ⌝ }
 {
     let mut again = false;
@@ -77,7 +80,8 @@ fn sweep(rule: &[u32], code: &[u32], notes: &mut [u64], flags: &mut [u64]) -> bo
 
 // Sweeps until nothing changes.
 fn settle(rule: &[u32], code: &[u32], notes: &mut [u64], flags: &mut [u64])
-    requires { ⌜ Asked (now rule) (now code) × Room (length (now code)) (now notes) (now flags) ⌝ }
+    requires { ⌜ Asked (now rule) (now code) × Room (length (now code)) (now notes) (now flags)
+        × Search (tableIn (now rule)) (bareCode (now code)) (now notes) (now flags) ⌝ }
     ensures { λ _. ⌜ Settled (now (rule .entry)) (now (code .entry)) (now (notes .entry)) (now (flags .entry)) (now (notes .exit)) (now (flags .exit)) ⌝ }
 {
     let mut again = true;

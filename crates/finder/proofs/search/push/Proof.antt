@@ -6,7 +6,7 @@ use lib.ListN.{getD}
 use borrow.Author.Needs.{needs}
 use Rattle.spec.specs.Script.{fieldsOf}
 use Rattle.finder.proofs.RowLaws.{spread-by}
-use Rattle.finder.proofs.SearchLaws.{room-line, room-same, few-nodes, names-at, target-in, next-in, leads, push-done}
+use Rattle.finder.proofs.SearchLaws.{room-line, rule-passed, facts-closed, names-at, target-in, next-in, leads, push-done}
 use Rattle.finder.proofs.search.push.Statement.{statement}
 use Rattle.finder.proofs.search.push.Tie as tie
 
@@ -35,8 +35,9 @@ push-to-requires c κs =
     let p = s .pre in
     let ws = s .args .code .now in
     let to = c .before .before .has-target .ensures in (
-      few-nodes _ _ (p .0),
+      rule-passed _ _ (p .0),
       names-at _ _ (p .0) _ (p .2),
+      facts-closed _ _ (p .0) _ _ (p .3) _ (p .2) _ (c .before .before .before .before .before .before .before .load .ensures),
       λ e. let h = room-line _ _ _ _ (target-in _ ws (p .0) _ (getD ws (s .args .l) 0 % 1024) (p .2) (sym to ∙ rw e)) (p .1) in
           record { words = h .words; flag = omega (arith, h .flag, c .before .before .before .before .before .lower .ensures .size) },
     )
@@ -53,8 +54,9 @@ push-to-requires-2 c κs =
     let p = s .pre in
     let on = c .before .before .goes-on .ensures in
     let w = c .before .before .before .before .before .before .before .push-to .ensures .lessens in (
-      few-nodes _ _ (p .0),
+      rule-passed _ _ (p .0),
       names-at _ _ (p .0) _ (p .2),
+      facts-closed _ _ (p .0) _ _ (p .3) _ (p .2) _ (c .before .before .before .before .before .before .before .before .before .before .before .before .before .before .before .load .ensures),
       λ e. let h = room-line _ _ _ _ (next-in _ _ (p .0) _ (p .2) (sym on ∙ e)) (p .1) in
           record { words = omega (arith, h .words, w .notes-size); flag = omega (arith, h .flag, w .flags-size, c .before .before .before .before .before .before .before .before .before .before .before .before .before .lower .ensures .size) },
     )

@@ -1,6 +1,5 @@
 -- `finder::search::push_to` meets its contract: a line cut, or none (`RowLaws.way-none`). Assumes nothing.
 use borrow.Author.Needs.{needs}
-use mathlib.Core.Path.{_≡_, subst}
 use Rattle.finder.proofs.RowLaws.{way-none, way-some}
 use Rattle.finder.proofs.search.push_to.Statement.{statement}
 use Rattle.finder.proofs.search.push_to.Tie as tie
@@ -9,7 +8,7 @@ pass-on-requires : tie.Need-pass-on-requires
 pass-on-requires c κs = search needs
 
 cut-requires : tie.Need-cut-requires
-cut-requires c κs = let s = c .before .before .before .before .before .before .before in s .pre .2 (c .before .before .before .if1 .taken)
+cut-requires c κs = let s = c .before .before .before .before .before .before .before in s .pre .3 (c .before .before .before .if1 .taken)
 
 same-length : tie.Need-same-length
 same-length c = search needs

@@ -24,8 +24,8 @@ loop-holds c = swept-start _ _ _ _ _ (c .next-flag .ensures)
 push-requires : tie.Need-push-requires Inv-loop μ-loop
 push-requires c κs =
     let s = c .before .before .before .before .before .before .before .before .before .before in
-    let i = c .before .before .before .loop .inv .searched .lessens in
-    (s .pre .0, room-same _ _ _ _ _ (i .notes-size) (i .flags-size) (s .pre .1), c .before .before .loop-test .taken)
+    let i = c .before .before .before .loop .inv .searched in
+    (s .pre .0, room-same _ _ _ _ _ (i .lessens .notes-size) (i .lessens .flags-size) (s .pre .1), c .before .before .loop-test .taken, i .keeps (s .pre .2))
 
 add-next-flag : tie.Need-add-next-flag Inv-loop μ-loop
 add-next-flag c = search needs
