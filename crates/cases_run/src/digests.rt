@@ -1,4 +1,6 @@
 // One number for many words.
+use crate::printing::print_named;
+use crate::printing::print_words;
 ghost use Prim.Native.Nat.{_≤_, _<_};
 
 fn wide(x: u32) -> u64
@@ -19,4 +21,13 @@ pub(crate) fn digest(h: u64, words: &[u32]) -> u64
         i += 1;
     }
     d
+}
+
+// A lent output, whole or as a digest.
+pub(crate) fn print_lent(out: &[u32]) {
+    if out.len() <= 256 {
+        print_words(b"words", out);
+    } else {
+        print_named(b"digest", digest(1, out));
+    }
 }

@@ -1,8 +1,9 @@
 // Runs the entry points on requests from standard input, and prints what they answer.
 // A request is words of 32 bits, high byte first: kind, node count, nodes, word count, words. Kind 1 asks about the rule and a history,
 // a number a word; kind 2 about the rule and a script; kinds 3 and 4 run the script, kind 6 weaves it first, and they go on as `runs` says;
-// kind 5 weaves the script, and goes on with the length of the lent output; kinds 7 to 9 are `texts`'. A 0 in place of a kind is skipped.
-// A count out of the buffers' range ends a block.
+// kinds 5 and 10 weave the script and find facts for it, and go on with the length of the lent output; kinds 7 to 9 are `texts`'. A 0 in place
+// of a kind is skipped. A count out of the buffers' range ends a block.
+use crate::finding::answer_finding;
 use crate::loading::load_numbers;
 use crate::loading::load_words;
 use crate::printing::print_answer;
@@ -18,6 +19,7 @@ use words::word_at;
 ghost use Prim.Native.Nat.{_<_, _≤_};
 
 mod digests;
+mod finding;
 mod loading;
 mod printing;
 mod runs;
@@ -76,6 +78,8 @@ fn answer(s: &[u8], kind: u32, rule: &[u32], nodes: usize, at: usize, count: usi
             answer_script(r, &script[..count]);
         } else if kind == 5 {
             answer_weaving(r, &script[..count], word_at(s, at + count) as usize);
+        } else if kind == 10 {
+            answer_finding(r, &script[..count], word_at(s, at + count) as usize);
         } else {
             answer_machine(s, kind, r, &script[..count], at + count);
         }
@@ -91,7 +95,7 @@ fn request(s: &[u8], at: usize) -> usize
     if kind == 0 {
         return at + 1;
     }
-    if 7 <= kind {
+    if (7 <= kind) & (kind <= 9) {
         return request_text(s, kind, at);
     }
     let nodes = word_at(s, at + 1) as usize;
@@ -109,7 +113,7 @@ fn request(s: &[u8], at: usize) -> usize
     if kind < 3 {
         return next;
     }
-    if kind == 5 {
+    if (kind == 5) | (kind == 10) {
         return next + 1;
     }
     let inputs = word_at(s, next) as usize;

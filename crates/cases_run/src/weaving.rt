@@ -1,17 +1,11 @@
 // Requests of kind 5: a bare script is woven into a lent output.
-use crate::digests::digest;
+use crate::digests::print_lent;
 use crate::printing::print_counted;
-use crate::printing::print_named;
-use crate::printing::print_words;
 
-// The answer of weaving, and the lent output afterwards, whole or as a digest.
+// The answer of weaving, and the lent output afterwards.
 fn answer_lent(rule: &[u32], bare: &[u32], out: &mut [u32]) {
     print_counted(b"lines", weaver::weave(rule, bare, out));
-    if out.len() <= 256 {
-        print_words(b"words", &out[..]);
-    } else {
-        print_named(b"digest", digest(1, &out[..]));
-    }
+    print_lent(&out[..]);
 }
 
 // An output of that many words is lent. It has 4,294,967,295 everywhere, which no woven line holds.

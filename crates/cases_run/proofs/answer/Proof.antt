@@ -60,6 +60,24 @@ answer-weaving-requires c κs = search needs
 array-share-prefix-script-3 : tie.Need-array-share-prefix-script-3
 array-share-prefix-script-3 c = search needs
 
+slice-aggregate-answer-finding : tie.Need-slice-aggregate-answer-finding
+slice-aggregate-answer-finding c = sym (length-take-le _ _ (omega arith))
+
+add-word-at-2 : tie.Need-add-word-at-2
+add-word-at-2 c = search needs
+
+word-at-requires-2 : tie.Need-word-at-requires-2
+word-at-requires-2 c κs = search needs
+
+cast-answer-finding : tie.Need-cast-answer-finding
+cast-answer-finding c = search needs
+
+answer-finding-requires : tie.Need-answer-finding-requires
+answer-finding-requires c κs = search needs
+
+array-share-prefix-script-4 : tie.Need-array-share-prefix-script-4
+array-share-prefix-script-4 c = search needs
+
 slice-aggregate-answer-machine : tie.Need-slice-aggregate-answer-machine
 slice-aggregate-answer-machine c = sym (length-take-le _ _ (omega arith))
 
@@ -80,6 +98,9 @@ returns-4 c = search needs
 
 returns-5 : tie.Need-returns-5
 returns-5 c = search needs
+
+returns-6 : tie.Need-returns-6
+returns-6 c = search needs
 
 pub answer-spec : {M : Type 1} → statement M
 answer-spec =
@@ -103,10 +124,17 @@ answer-spec =
     cast-answer-weaving
     answer-weaving-requires
     array-share-prefix-script-3
+    slice-aggregate-answer-finding
+    add-word-at-2
+    word-at-requires-2
+    cast-answer-finding
+    answer-finding-requires
+    array-share-prefix-script-4
     slice-aggregate-answer-machine
     add-answer-machine
     answer-machine-requires
     returns-2
     returns-3
     returns-4
-    returns-5)
+    returns-5
+    returns-6)

@@ -1,0 +1,23 @@
+// Requests of kind 10: facts are found for instructions, into a lent output.
+use crate::digests::print_lent;
+use crate::printing::print_answer;
+use crate::printing::print_counted;
+use crate::printing::say;
+
+// The answer, the lent output afterwards, and what the checker says to the lines in it where there is room for them.
+fn answer_lent(rule: &[u32], instructions: &[u32], out: &mut [u32]) {
+    print_counted(b"facts", finder::find_facts(rule, instructions, out));
+    print_lent(&out[..]);
+    if instructions.len() <= out.len() / 8 {
+        say(b"script ");
+        print_answer(checker::check_script(rule, &out[..8 * instructions.len()]));
+    }
+}
+
+// An output of that many words is lent. It has 4,294,967,295 everywhere, which no line holds.
+pub(crate) fn answer_finding(rule: &[u32], instructions: &[u32], length: usize) {
+    if length <= 16384 {
+        let mut out = [4294967295u32; 16384];
+        answer_lent(rule, instructions, &mut out[..length]);
+    }
+}
