@@ -10,19 +10,21 @@ use mathlib.Core.Option.{Option, none, some}
 use mathlib.Core.List.{List, [], _∷_}
 use Prim.Native.Nat.{ℕ, suc, _+_, _*_, _/_, _%_, _^_, _≤_, _<_}
 use native.Mathlib.Omega.{arith}
-use lib.ListN.{length, getD}
+use lib.ListN.{length, getD, take, drop}
+use lib.Seq.{take-at}
 use borrow.Author.Tests.{le-leb, eq-eqb}
 use Rattle.spec.specs.Questions.{Checked, _then_, firstFailing, noAt, ask, askOnce, passed, refused}
 use Rattle.spec.specs.Rule.{Form, Table, tableOf, lastNode, question1, question2, question3, question4, checkRule}
 use Rattle.spec.specs.Script.{Instruction, Code, instructionAt, isPresent, fieldsOf, instructionRead, fieldsFor, wordFor, Stored, bareStored, bareCode, mostLines, question5, annotatedOpcode, lineAllowed, question6, followersExist, question7, checkCode}
 use Rattle.spec.specs.Facts.{_⊑_, belongs, close, valueIs}
 use Rattle.spec.specs.Check.{Lines, lineAt, codeOf, linesOf, annotatedStored, factsBelong, question8, question9, presentKnown, question10, factsFollow, question11, checkFacts, checkScript}
+use Rattle.spec.specs.Weaver.{outputFor}
 use Rattle.spec.specs.Promise.{Accepted}
 use Rattle.largest.specs.Notes.{notesOf, Obeys}
-use Rattle.largest.specs.Largest.{checkInstructions, foundLines, question19, checkFound, foundWords, foundCount}
+use Rattle.largest.specs.Largest.{checkInstructions, foundLines, question19, checkFound, foundWords, foundCount, roomForFound, foundAnswer, foundOutput}
 use Rattle.largest.specs.Found.{Annotates, checkObeying, Within, Largest, Lacking, Unreached, onesOver, Found}
 use Rattle.spec.proofs.BoolLaws.{clash, both-and, not-either, bool-ext, le-or-lt}
-use Rattle.spec.proofs.QuestionLaws.{then-passed, both-passed, then-no, once-in, once-out, once-number, ask-in, ask-out, ask-lowest}
+use Rattle.spec.proofs.QuestionLaws.{then-passed, then-refused, both-passed, then-no, once-in, once-out, once-number, ask-in, ask-out, ask-lowest}
 use Rattle.spec.proofs.RuleLaws.{InOrder, length-table, rule-out}
 use Rattle.spec.proofs.FactLaws.{belongs-in}
 use Rattle.spec.proofs.ClosingLaws.{extends}
@@ -326,6 +328,22 @@ module _ (form : Form) (g : GoodForm form) (rule ws : List ℕ) where
       let c = found-known r lines a d p (k .isThere) in
       k .without (closed-found r p (k .isThere) (valueIs true) (lastNode t) (not-either (isPresent (lineAt found p .instruction)) _ c (k .atPresent)))
 
+  no-answer : (q p : ℕ) → checkFound form rule ws ≡ refused q p → (out : List ℕ) → foundAnswer form rule ws out ≡ refused q p
+  unfolding foundAnswer
+  no-answer q p e out = then-refused _ _ q p e
+
+  yes-answer : checkFound form rule ws ≡ passed tt → (out : List ℕ) → 8 * length ws ≤ length out
+      → foundAnswer form rule ws out ≡ passed (foundCount form rule ws)
+  unfolding foundAnswer roomForFound
+  yes-answer e out h = then-passed _ _ e ∙ then-passed _ _ (once-in 13 _ (le-leb (8 * length ws) (length out) h))
+
+  written-first : checkFound form rule ws ≡ passed tt → (out : List ℕ) → 8 * length ws ≤ length out
+      → take (8 * length ws) (foundOutput form rule ws out) ≡ foundWords form rule ws
+  unfolding foundOutput
+  written-first e out h =
+      ap (λ a. take (8 * length ws) (outputFor (foundWords form rule ws) a out)) (yes-answer e out h)
+      ∙ take-at (foundWords form rule ws) (drop (length (foundWords form rule ws)) out) (8 * length ws) (found-whole (found-first e))
+
   pub finding : Found form rule ws
   finding = record {
     searched = λ e. largest-obeying (ready form rule ws e);
@@ -333,6 +351,8 @@ module _ (form : Form) (g : GoodForm form) (rule ws : List ℕ) where
     lacking = lacks;
     hopeless = none-help;
     largest = λ e. largest-accepted (found-first e) (found-accepted (found-first e) (found-last e));
+    refuses = no-answer;
+    succeeds = λ e out h. (yes-answer e out h, written-first e out h);
     sameWords = λ e. found-words (ready form rule ws e);
     counted = λ e. found-count (ready form rule ws e);
     unique = λ check a b x y. largest-one form ws check a b x y;

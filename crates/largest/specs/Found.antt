@@ -4,7 +4,7 @@ use mathlib.Core.Path.{_≡_}
 use mathlib.Core.Bool.{Bool, true}
 use mathlib.Core.Option.{some}
 use mathlib.Core.List.{List, [], _∷_}
-use Prim.Native.Nat.{ℕ, zero, suc, _+_, _*_, _^_, _<_}
+use Prim.Native.Nat.{ℕ, zero, suc, _+_, _*_, _^_, _≤_, _<_}
 use lib.ListN.{length, getD, take, drop}
 use lib.Count as bits
 use Rattle.spec.specs.Questions.{passed, refused, Checked, _then_}
@@ -14,7 +14,7 @@ use Rattle.spec.specs.Facts.{valueIs, belongs, _⊑_}
 use Rattle.spec.specs.Check.{Lines, lineAt, codeOf, lineLength, linesOf, question8, question9, question11, checkScript}
 use Rattle.spec.specs.Promise.{Accepted}
 use Rattle.largest.specs.Notes.{notesOf, followerOf}
-use Rattle.largest.specs.Largest.{checkInstructions, foundLines, checkFound, foundWords, foundCount}
+use Rattle.largest.specs.Largest.{checkInstructions, foundLines, checkFound, foundWords, foundCount, foundAnswer, foundOutput}
 
 -- ---- the largest notes
 
@@ -91,6 +91,12 @@ pub record Found (form : Form) (rule instructions : List ℕ) : Type 0 where
   -- Otherwise what is written is accepted, and those of any other accepted notes lie within it.
   pub largest : checkFound form rule instructions ≡ passed tt
       → Largest form (checkScript form rule) instructions (foundWords form rule instructions)
+  -- A no to questions 1 to 7 or to 19 is the answer whatever output is lent: 13 is put after them.
+  pub refuses : (q p : ℕ) → checkFound form rule instructions ≡ refused q p → (out : List ℕ) → foundAnswer form rule instructions out ≡ refused q p
+  -- Otherwise it succeeds if the output is large enough, and the lines stand at its start.
+  pub succeeds : checkFound form rule instructions ≡ passed tt → (out : List ℕ) → lineLength * length instructions ≤ length out
+      → (foundAnswer form rule instructions out ≡ passed (foundCount form rule instructions))
+      × (take (lineLength * length instructions) (foundOutput form rule instructions out) ≡ foundWords form rule instructions)
   -- The first word of each line written is the instruction given, where that has 32 bits.
   pub sameWords : checkInstructions form rule instructions ≡ passed tt → (l : ℕ) → l < length instructions → getD instructions l 0 < 2 ^ 32
       → getD (foundWords form rule instructions) (lineLength * l) 0 ≡ form .storeFirst (getD instructions l 0)
