@@ -2,7 +2,7 @@
  * An audiometer in small: it loads a rule typed as text and a bare script in hexadecimal, has the guard woven in and checked, plays
  * the script step by step with inputs from a list, prints each presentation as it is made, and has the record judged afterwards.
  *
- *     instrument RULE SCRIPT ACCIDENT INPUT...
+ *     instrument RULE SCRIPT ACCIDENT HAND INPUT...
  */
 #include <ctype.h>
 #include <stdbool.h>
@@ -134,23 +134,40 @@ static void judge(const char *what, const uint32_t *rule, size_t nodes, const ui
         printf("%s: the rule is true at all %llu presentations\n", what, (unsigned long long)numbers[GUARD_JUDGE_STATES]);
 }
 
+/* Has facts found for a guard that was written by hand without. */
+static void find(const char *what, const uint32_t *rule, size_t nodes, const uint32_t *hand, size_t lines)
+{
+    static uint32_t found[GUARD_LINE_WORDS * GUARD_MOST_LINES];
+    uint64_t numbers[GUARD_FACTS_NUMBERS];
+    uint32_t question = guard_facts(rule, nodes, hand, lines, found, GUARD_LINE_WORDS * GUARD_MOST_LINES,
+                                    numbers, GUARD_FACTS_NUMBERS);
+    if (question != GUARD_YES) {
+        tell_refusal(what, question, numbers[GUARD_PLACE]);
+        return;
+    }
+    uint64_t facts = numbers[GUARD_FACTS_COUNT];
+    question = guard_script(rule, nodes, found, GUARD_LINE_WORDS * lines, numbers, GUARD_SCRIPT_NUMBERS);
+    stop_if_refused(what, question, numbers);
+    printf("%s: %llu facts found, accepted\n", what, (unsigned long long)facts);
+}
+
 int main(int argc, char **argv)
 {
-    static uint32_t rule[GUARD_MOST_NODES], bare[GUARD_MOST_LINES];
+    static uint32_t rule[GUARD_MOST_NODES], bare[GUARD_MOST_LINES], hand[GUARD_MOST_LINES];
     static uint32_t script[GUARD_LINE_WORDS * GUARD_MOST_LINES], accident[GUARD_LINE_WORDS * GUARD_MOST_LINES];
     static uint16_t inputs[MOST_INPUTS], history[GUARD_REGISTERS * MOST_PRESENTATIONS];
     static uint16_t again[GUARD_REGISTERS * MOST_PRESENTATIONS];
     uint64_t numbers[GUARD_RUN_NUMBERS];
 
-    if (argc < 4 || argc - 4 > MOST_INPUTS) {
-        fprintf(stderr, "usage: %s RULE SCRIPT ACCIDENT INPUT...\n", argv[0]);
+    if (argc < 5 || argc - 5 > MOST_INPUTS) {
+        fprintf(stderr, "usage: %s RULE SCRIPT ACCIDENT HAND INPUT...\n", argv[0]);
         return 2;
     }
     size_t nodes = read_rule(argv[1], rule);
     size_t lines = read_hex(argv[2], bare, GUARD_MOST_LINES);
-    size_t input_count = (size_t)argc - 4;
+    size_t input_count = (size_t)argc - 5;
     for (size_t i = 0; i < input_count; i++)
-        inputs[i] = (uint16_t)strtoul(argv[4 + i], NULL, 10);
+        inputs[i] = (uint16_t)strtoul(argv[5 + i], NULL, 10);
 
     uint32_t question = guard_weave(rule, nodes, bare, lines, script, GUARD_LINE_WORDS * GUARD_MOST_LINES,
                                     numbers, GUARD_WEAVE_NUMBERS);
@@ -191,5 +208,18 @@ int main(int argc, char **argv)
         printf("accident: accepted\n");
     else
         tell_refusal("accident", question, numbers[GUARD_PLACE]);
+
+    /* A guard without facts; then the same with its present and the line after it in the wrong order, which no facts can save. */
+    size_t hand_lines = read_hex(argv[4], hand, GUARD_MOST_LINES);
+    find("by hand", rule, nodes, hand, hand_lines);
+    for (size_t i = 0; i + 1 < hand_lines; i++) {
+        if (hand[i] >> 28 == 8) {
+            uint32_t present = hand[i];
+            hand[i] = hand[i + 1];
+            hand[i + 1] = present;
+            break;
+        }
+    }
+    find("by hand, kept too early", rule, nodes, hand, hand_lines);
     return 0;
 }
