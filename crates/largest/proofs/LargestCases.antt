@@ -1,5 +1,7 @@
 -- Cases of request 2026-05 by computation, and its promise for document 01's stored form.
---     unreached, tone-found, nothing-known     a line nothing leads to; the instructions of the woven tone script; question 19
+--     unreached, tone-found                    lines that nothing leads to; the instructions of the woven tone script
+--     nothing-known, lower-of-two, kept-early   question 19
+--     accident-found, kept-late                 the accident, and a guard by hand
 --     finding32
 -- Assumes nothing.
 use mathlib.Core.Path.{_≡_, refl}
@@ -34,6 +36,36 @@ tone-found = (refl, refl)
 pub nothing-known : checkFound form32 sinceRule (0x41000000 ∷ 0x80000000 ∷ 0 ∷ []) ≡ refused 19 1
 unfolding everything factsIn countFacts startNotes stored _∩_ annotate narrow narrowTo push sweep countIn settle search checkInstructions foundLines question19 checkFound foundCount
 nothing-known = refl
+
+-- of two presents that nothing is known before, the lower
+pub lower-of-two : checkFound form32 sinceRule (0x41000000 ∷ 0x80000000 ∷ 0x41000000 ∷ 0x80000000 ∷ 0 ∷ []) ≡ refused 19 1
+unfolding everything factsIn countFacts startNotes stored _∩_ annotate narrow narrowTo push sweep countIn settle search checkInstructions foundLines question19 checkFound foundCount
+lower-of-two = refl
+
+-- the accident of crate checker's README presents right after its test of right: with facts that do not claim its kept bit it is accepted
+abbrev accidentCode : List ℕ
+accidentCode = 0x41000000 ∷ 0x42000000 ∷ 0x52000404 ∷ 0x70000000 ∷ 0x91000800 ∷ 0xc0000800 ∷ 0x80000000 ∷ 0x70000000 ∷ []
+
+pub accident-found : (foundCount form32 sinceRule accidentCode ≡ 11) × (checkFound form32 sinceRule accidentCode ≡ passed tt)
+unfolding everything factsIn countFacts startNotes stored _∩_ annotate narrow narrowTo push sweep countIn settle search checkInstructions foundLines question19 checkFound foundCount
+accident-found = (refl, refl)
+
+abbrev handCode : List ℕ
+handCode =
+    0x41000000 ∷ 0xa0000804 ∷ 0x52000406 ∷ 0x70000000 ∷ 0x51000406 ∷ 0x70000000 ∷ 0x91000800 ∷ 0x80000000 ∷ 0xc0000800 ∷ 0x70000000 ∷ []
+
+abbrev earlyCode : List ℕ
+earlyCode =
+    0x41000000 ∷ 0xa0000804 ∷ 0x52000406 ∷ 0x70000000 ∷ 0x51000406 ∷ 0x70000000 ∷ 0x91000800 ∷ 0xc0000800 ∷ 0x80000000 ∷ 0x70000000 ∷ []
+
+-- a guard by hand that asks its kept bit, and the same with the bit kept before the presentation is made, which no facts can save
+pub kept-late : (foundCount form32 sinceRule handCode ≡ 23) × (checkFound form32 sinceRule handCode ≡ passed tt)
+unfolding everything factsIn countFacts startNotes stored _∩_ annotate narrow narrowTo push sweep countIn settle search checkInstructions foundLines question19 checkFound foundCount
+kept-late = (refl, refl)
+
+pub kept-early : checkFound form32 sinceRule earlyCode ≡ refused 19 8
+unfolding everything factsIn countFacts startNotes stored _∩_ annotate narrow narrowTo push sweep countIn settle search checkInstructions foundLines question19 checkFound foundCount
+kept-early = refl
 
 -- document 01's stored form
 pub finding32 : (rule instructions : List ℕ) → Found form32 rule instructions
