@@ -22,7 +22,7 @@ use Rattle.spec.specs.Weaver.{outputFor}
 use Rattle.spec.specs.Promise.{Accepted}
 use Rattle.largest.specs.Notes.{notesOf, Obeys}
 use Rattle.largest.specs.Largest.{checkInstructions, foundLines, question19, checkFound, foundWords, foundCount, roomForFound, foundAnswer, foundOutput}
-use Rattle.largest.specs.Found.{Annotates, checkObeying, Within, Largest, Lacking, Unreached, onesOver, Found}
+use Rattle.largest.specs.Found.{Annotates, checkObeying, Within, Largest, KnownAt, Lacking, Unreached, onesOver, Found}
 use Rattle.spec.proofs.BoolLaws.{clash, both-and, not-either, bool-ext, le-or-lt}
 use Rattle.spec.proofs.QuestionLaws.{then-passed, then-refused, both-passed, then-no, once-in, once-out, once-number, ask-in, ask-out, ask-lowest}
 use Rattle.spec.proofs.RuleLaws.{InOrder, length-table, rule-out}
@@ -293,6 +293,16 @@ module _ (form : Form) (g : GoodForm form) (rule ws : List ℕ) where
   known-not true c e = (refl, e)
   known-not false c e = clash refl e
 
+  -- the lines written are those found, and so are their instructions
+  written-known : Ready form rule ws → (l : ℕ) → notesOf found l (valueIs true) (lastNode t) ≡ true → KnownAt form rule ws l
+  written-known r l e = subst (λ ls. notesOf ls l (valueIs true) (lastNode t) ≡ true) (sym (found-read r)) e
+
+  known-found : Ready form rule ws → (l : ℕ) → KnownAt form rule ws l → notesOf found l (valueIs true) (lastNode t) ≡ true
+  known-found r l e = subst (λ ls. notesOf ls l (valueIs true) (lastNode t) ≡ true) (found-read r) e
+
+  same-present : Ready form rule ws → (l : ℕ) → isPresent (instructionAt bare l) ≡ isPresent (lineAt found l .instruction)
+  same-present r l = ap isPresent (code-at ws l ∙ sym (instruction-found r l))
+
   lacks : (p : ℕ) → checkFound form rule ws ≡ refused 19 p → Lacking form rule ws p
   unfolding checkFound question19 presentKnown AtMost
   lacks p e = elim (then-no (checkInstructions form rule ws) _ 19 p e) [
@@ -301,14 +311,14 @@ module _ (form : Form) (g : GoodForm form) (rule ws : List ℕ) where
         let q = h .0 in
         let r = ready form rule ws q in
         let (x, inside, fails, before) = ask-lowest 19 (length ws) (λ l. presentKnown t (lineAt found l)) 19 p (h .1) in
-        let (present, lost) = known-not (isPresent (lineAt found p .instruction)) (close t (lineAt found p .annotation) (valueIs true) (lastNode t)) fails in
+        let (at, lost) = known-not (isPresent (lineAt found p .instruction)) (close t (lineAt found p .annotation) (valueIs true) (lastNode t)) fails in
         record {
           asked = q;
           isThere = inside;
-          atPresent = present;
-          without = λ d. clash (extends t (lineAt found p .annotation) (valueIs true) (lastNode t) d) lost;
-          lowest = λ l u pr. closed-found r l (omega arith) (valueIs true) (lastNode t)
-              (not-either (isPresent (lineAt found l .instruction)) _ (before l u) pr);
+          atPresent = same-present r p ∙ at;
+          without = λ d. clash (extends t (lineAt found p .annotation) (valueIs true) (lastNode t) (known-found r p d)) lost;
+          lowest = λ l u pr. written-known r l (closed-found r l (omega arith) (valueIs true) (lastNode t)
+              (not-either (isPresent (lineAt found l .instruction)) _ (before l u) (sym (same-present r l) ∙ pr)));
         }
   ]
 
@@ -326,7 +336,8 @@ module _ (form : Form) (g : GoodForm form) (rule ws : List ℕ) where
       let k = lacks p e in
       let r = ready form rule ws (k .asked) in
       let c = found-known r lines a d p (k .isThere) in
-      k .without (closed-found r p (k .isThere) (valueIs true) (lastNode t) (not-either (isPresent (lineAt found p .instruction)) _ c (k .atPresent)))
+      k .without (written-known r p (closed-found r p (k .isThere) (valueIs true) (lastNode t)
+      (not-either (isPresent (lineAt found p .instruction)) _ c (sym (same-present r p) ∙ k .atPresent))))
 
   no-answer : (q p : ℕ) → checkFound form rule ws ≡ refused q p → (out : List ℕ) → foundAnswer form rule ws out ≡ refused q p
   unfolding foundAnswer

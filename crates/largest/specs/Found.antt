@@ -11,10 +11,10 @@ use Rattle.spec.specs.Questions.{passed, refused, Checked, _then_}
 use Rattle.spec.specs.Rule.{Form, lastNode, tableOf}
 use Rattle.spec.specs.Script.{Code, instructionAt, isPresent, bareCode}
 use Rattle.spec.specs.Facts.{valueIs, belongs, _⊑_}
-use Rattle.spec.specs.Check.{Lines, lineAt, codeOf, lineLength, linesOf, question8, question9, question11, checkScript}
+use Rattle.spec.specs.Check.{codeOf, lineLength, linesOf, question8, question9, question11, checkScript}
 use Rattle.spec.specs.Promise.{Accepted}
 use Rattle.largest.specs.Notes.{notesOf, followerOf}
-use Rattle.largest.specs.Largest.{checkInstructions, foundLines, checkFound, foundWords, foundCount, foundAnswer, foundOutput}
+use Rattle.largest.specs.Largest.{checkInstructions, checkFound, foundWords, foundCount, foundAnswer, foundOutput}
 
 -- ---- the largest notes
 
@@ -42,19 +42,18 @@ pub record Largest (form : Form) (check : (lines : List ℕ) → Checked) (instr
 
 -- ---- 19
 
--- node k is known to be true at line l
-abbrev pub KnownTrue : Lines → ℕ → ℕ → Type 0
-KnownTrue ls l k = notesOf ls l (valueIs true) k ≡ true
+-- the last node is known to be true at line l of those found
+abbrev pub KnownAt : Form → (rule instructions : List ℕ) → ℕ → Type 0
+KnownAt form rule ws l = notesOf (linesOf form (foundWords form rule ws)) l (valueIs true) (lastNode (tableOf form rule)) ≡ true
 
 -- why 19 names line p: questions 1 to 7 have a yes, p is a present whose largest facts lack T of the last node, and presents
 -- before it have that
 pub record Lacking (form : Form) (rule instructions : List ℕ) (p : ℕ) : Type 0 where
   pub asked : checkInstructions form rule instructions ≡ passed tt
   pub isThere : p < length instructions
-  pub atPresent : isPresent (lineAt (foundLines form rule instructions) p .instruction) ≡ true
-  pub without : KnownTrue (foundLines form rule instructions) p (lastNode (tableOf form rule)) → ⊥
-  pub lowest : (l : ℕ) → l < p → isPresent (lineAt (foundLines form rule instructions) l .instruction) ≡ true
-      → KnownTrue (foundLines form rule instructions) l (lastNode (tableOf form rule))
+  pub atPresent : isPresent (instructionAt (bareCode instructions) p) ≡ true
+  pub without : KnownAt form rule instructions p → ⊥
+  pub lowest : (l : ℕ) → l < p → isPresent (instructionAt (bareCode instructions) l) ≡ true → KnownAt form rule instructions l
 
 -- ---- lines that nothing leads to, and the count
 
