@@ -1,5 +1,4 @@
 -- What is found, asked and written (`specs/Kept.antt`, crate largest's `Largest`).
---     rule-no, code-answers            questions 1 to 7
 --     found-line                       a line found has its notes from the largest kept
 --     known-yes, known-no              question 19 at a line
 --     kept-next, Writing, writing-start, writing-next    one line more is written
@@ -24,7 +23,7 @@ use Rattle.largest.specs.Notes.{Notes, notesOf}
 use Rattle.largest.specs.Largest.{factsIn, countFacts, annotate, checkInstructions, foundLines, question19, checkFound, foundWords, foundCount, roomForFound, foundAnswer, foundOutput}
 use Rattle.largest.specs.Found.{Largest}
 use Rattle.spec.proofs.BoolLaws.{bool-ext}
-use Rattle.spec.proofs.QuestionLaws.{first-no, go-on, then-passed, then-refused, once-in, once-no}
+use Rattle.spec.proofs.QuestionLaws.{then-passed, then-refused, once-in, once-no}
 use Rattle.spec.proofs.RuleLaws.{length-table}
 use Rattle.spec.proofs.FactLaws.{belongs-in}
 use Rattle.spec.proofs.ClosingLaws.{extends}
@@ -34,25 +33,11 @@ use Rattle.largest.proofs.LargestLaws.{largest-closed}
 use Rattle.largest.proofs.LargestLoop.{found-lines, found-same, line-annotate, length-annotate, count-as}
 use Rattle.largest.proofs.ObeyLaws.{code-at, length-bare, fit-again}
 use Rattle.largest.proofs.LargestPromise.{ready, finding, found-whole}
-use Rattle.script.specs.Lines.{strided}
-use Rattle.script.proofs.StrideLaws.{bare-is}
 use Rattle.finder.specs.Rows.{tableIn, notesAt, Asked, LargestAt}
 use Rattle.output.specs.Written.{storedLine, over}
 use Rattle.finder.specs.Kept.{gather, keptLines}
 use Rattle.finder.specs.Answers.{HandsOut}
 use Rattle.output.proofs.OverLaws.{over-then, length-over, length-stored}
-
--- ---- questions 1 to 7
-
-module _ (rule ws : List ℕ) where
-  pub rule-no : (a : Checked) (q i : ℕ) → a ≡ refused q i → a ≡ checkRule form32 rule → a ≡ checkInstructions form32 rule ws
-  unfolding checkInstructions
-  rule-no a q i e d = first-no a _ _ q i e d
-
-  pub code-answers : checkRule form32 rule ≡ passed tt → (a : Checked)
-      → a ≡ checkCode (tableOf form32 rule) annotatedOpcode (strided true 1 (length ws) ws) → a ≡ checkInstructions form32 rule ws
-  unfolding checkInstructions
-  code-answers y a d = go-on a _ _ y (d ∙ ap (checkCode (tableOf form32 rule) annotatedOpcode) (bare-is ws))
 
 -- ---- the lines found
 

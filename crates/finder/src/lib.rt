@@ -4,9 +4,8 @@ use crate::lines::put_lines;
 use crate::search::find_in;
 use rule::answer::Answer;
 use rule::answer::Counted;
-use rule::check_rule;
+use script::check_words;
 use script::line::Opcodes;
-use script::line::check_code;
 ghost use mathlib.Core.Path.{_≡_};
 ghost use Rattle.spec.specs.Rule.{form32};
 ghost use Rattle.largest.specs.Largest.{checkInstructions, foundAnswer, foundOutput};
@@ -23,18 +22,7 @@ mod search;
 pub fn check_instructions(rule: &[u32], instructions: &[u32]) -> Answer
     ensures { λ r. ⌜ answerOf r ≡ checkInstructions form32 (now (rule .entry)) (now (instructions .entry)) ⌝ }
 {
-    let checked = check_rule(rule);
-    let Answer::Passed = checked else {
-        return checked;
-    };
-    check_code(
-        rule,
-        instructions,
-        true,
-        1,
-        instructions.len(),
-        Opcodes::Annotated,
-    )
+    check_words(rule, instructions, Opcodes::Annotated)
 }
 
 // Questions 1 to 7, the search, 19 and 13, then the annotated lines; later words stay, and a refusal changes nothing. The search has
