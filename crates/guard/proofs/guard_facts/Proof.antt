@@ -28,13 +28,15 @@ same-length-2 c = search needs
 
 returns-2 : tie.Need-returns-2
 returns-2 c =
-    let s = c .before .before .before .before .before .before .before .before .before .before .before .before .before in
+    let at-find-facts = c .before .before .before .before .before .before in
+    let at-if1 = at-find-facts .before .before in
+    let s = at-if1 .before .before .before .before .before in
     let a = s .args in
     let x = foundAnswer form32 (a .rule .now) (a .instructions .now) (a .out .now) in
     let after = foundOutput form32 (a .rule .now) (a .instructions .now) (a .out .now) in
-    let w = c .before .before .before .before .before .before .find-facts .ensures in
+    let w = at-find-facts .find-facts .ensures in
     let e = c .before .before .note-count .ensures in
-    count-noted (a .numbers .now) (a .out .now) after x _ (w .0) _ (w .1 .0) (c .before .before .before .before .before .before .before .before .if1 .left) _ (e .0) _ (e .1)
+    count-noted (a .numbers .now) (a .out .now) after x _ (w .0) _ (w .1 .0) (at-if1 .if1 .left) _ (e .0) _ (e .1)
 
 pub guard-facts-spec : {M : Type 1} → statement M
 guard-facts-spec =

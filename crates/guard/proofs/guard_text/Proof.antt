@@ -30,14 +30,16 @@ same-length-2 c = search needs
 
 returns-2 : tie.Need-returns-2
 returns-2 c =
-    let s = c .before .before .before .before .before .before .before .before .before .before .before .before in
+    let at-read-text = c .before .before .before .before .before .before in
+    let at-if1 = at-read-text .before .before in
+    let s = at-if1 .before .before .before .before in
     let a = s .args in
     let t = texting form32 (length (a .out .now)) (a .text .now) in
     let x = countOf t in
     let after = outputOf t (a .out .now) in
-    let w = c .before .before .before .before .before .before .read-text .ensures in
+    let w = at-read-text .read-text .ensures in
     let e = c .before .before .note-count .ensures in
-    count-noted (a .numbers .now) (a .out .now) after x _ (w .0) _ (w .1 .0) (c .before .before .before .before .before .before .before .before .if1 .left) _ (e .0) _ (e .1)
+    count-noted (a .numbers .now) (a .out .now) after x _ (w .0) _ (w .1 .0) (at-if1 .if1 .left) _ (e .0) _ (e .1)
 
 pub guard-text-spec : {M : Type 1} → statement M
 guard-text-spec =

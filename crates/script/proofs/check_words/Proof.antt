@@ -16,13 +16,18 @@ enum-told-2 : tie.Need-enum-told-2
 enum-told-2 c = search needs
 
 returns : tie.Need-returns
-returns c = rule-no _ (c .before .before .before .before .before .args .rule .now) (c .before .before .before .before .before .args .script .now) _ _ _ (ap answerOf (c .enum-told2 .given .1)) (c .before .before .check-rule .ensures)
+returns c =
+    let s = c .before .before .before .before .before in
+    rule-no _ (s .args .rule .now) (s .args .script .now) _ _ _ (ap answerOf (c .enum-told2 .given .1)) (c .before .before .check-rule .ensures)
 
 check-code-requires : tie.Need-check-code-requires
 check-code-requires c κs = search needs
 
 returns-2 : tie.Need-returns-2
-returns-2 c = code-answers _ (c .before .before .before .before .before .before .args .rule .now) (c .before .before .before .before .before .before .args .script .now) (sym (c .before .before .before .check-rule .ensures) ∙ ap answerOf (c .before .enum-told .given .1)) _ (c .check-code .ensures)
+returns-2 c =
+    let s = c .before .before .before .before .before .before in
+    code-answers _ (s .args .rule .now) (s .args .script .now)
+    (sym (c .before .before .before .check-rule .ensures) ∙ ap answerOf (c .before .enum-told .given .1)) _ (c .check-code .ensures)
 
 pub check-words-spec : {M : Type 1} → statement M
 check-words-spec =

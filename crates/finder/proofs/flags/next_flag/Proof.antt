@@ -28,10 +28,16 @@ mul-result : tie.Need-mul-result Inv-loop μ-loop
 mul-result c = let s = c .before .before .before .before .before .before in omega (arith, s .pre .1, c .before .before .before .loop-test .taken)
 
 add-result : tie.Need-add-result Inv-loop μ-loop
-add-result c = let s = c .before .before .before .before .before .before in omega (arith, s .pre .1, c .before .before .before .loop-test .taken, c .if1 .taken)
+add-result c =
+    let s = c .before .before .before .before .before .before in
+    omega (arith, s .pre .1, c .before .before .before .loop-test .taken, c .if1 .taken)
 
 returns : tie.Need-returns Inv-loop μ-loop
-returns c = let s = c .before .before .before .before .before .before in looking-found (s .args .flags .now) (s .args .start) (s .args .lines) (c .before .before .before .before .loop .l) _ (c .before .before .before .before .loop .inv) (c .before .first-from .ensures) (c .if1 .taken)
+returns c =
+    let at-loop = c .before .before .before .before in
+    let s = at-loop .before .before in
+    looking-found (s .args .flags .now) (s .args .start) (s .args .lines) (at-loop .loop .l) _ (at-loop .loop .inv) (c .before .first-from .ensures)
+    (c .if1 .taken)
 
 mul-l : tie.Need-mul-l Inv-loop μ-loop
 mul-l c = let s = c .before .before .before .before .before .before in omega (arith, s .pre .1, c .before .before .before .loop-test .taken)
@@ -43,7 +49,11 @@ loop-less : tie.Need-loop-less Inv-loop μ-loop
 loop-less c = omega (arith, c .before .before .before .loop-test .taken)
 
 loop-again : tie.Need-loop-again Inv-loop μ-loop
-loop-again c = let s = c .before .before .before .before .before .before in looking-on (s .args .flags .now) (s .args .start) (s .args .lines) (c .before .before .before .before .loop .l) _ (c .before .before .before .before .loop .inv) (c .before .first-from .ensures) (c .if1 .left)
+loop-again c =
+    let at-loop = c .before .before .before .before in
+    let s = at-loop .before .before in
+    looking-on (s .args .flags .now) (s .args .start) (s .args .lines) (at-loop .loop .l) _ (at-loop .loop .inv) (c .before .first-from .ensures)
+    (c .if1 .left)
 
 returns-2 : tie.Need-returns-2 Inv-loop μ-loop
 returns-2 c = looking-end _ _ _ _ (c .loop-test .left) (c .before .loop .inv)

@@ -32,9 +32,11 @@ known-at-requires c κs = let p = c .before .before .before .before .before .pre
 returns : tie.Need-returns Inv-loop μ-loop
 unfolding question19
 returns c =
-    let a = c .before .before .before .before .before .before .before .args in
+    let s = c .before .before .before .before .before .before .before in
+    let a = s .args in
     let l = c .before .before .before .loop in
-    scan-no 19 _ (ok (a .rule .now) (a .code .now)) (l .l) (c .before .before .loop-test .taken) (sym (c .before .known-at .ensures) ∙ not-true _ (c .if1 .taken)) (l .inv)
+    scan-no 19 _ (ok (a .rule .now) (a .code .now)) (l .l) (c .before .before .loop-test .taken)
+    (sym (c .before .known-at .ensures) ∙ not-true _ (c .if1 .taken)) (l .inv)
 
 add-l : tie.Need-add-l Inv-loop μ-loop
 add-l c = search needs
@@ -44,9 +46,11 @@ loop-less c = search needs
 
 loop-again : tie.Need-loop-again Inv-loop μ-loop
 loop-again c =
-    let a = c .before .before .before .before .before .before .before .args in
+    let s = c .before .before .before .before .before .before .before in
+    let a = s .args in
     let l = c .before .before .before .loop in
-    scanned-next (ok (a .rule .now) (a .code .now)) _ (l .l) (c .before .before .loop-test .taken) (sym (c .before .known-at .ensures) ∙ not-false _ (c .if1 .left)) (l .inv)
+    scanned-next (ok (a .rule .now) (a .code .now)) _ (l .l) (c .before .before .loop-test .taken)
+    (sym (c .before .known-at .ensures) ∙ not-false _ (c .if1 .left)) (l .inv)
 
 returns-2 : tie.Need-returns-2 Inv-loop μ-loop
 unfolding question19

@@ -28,16 +28,28 @@ shared-slice-read-put-line : tie.Need-shared-slice-read-put-line Inv-loop μ-loo
 shared-slice-read-put-line c = search needs
 
 mul-put-line-2 : tie.Need-mul-put-line-2 Inv-loop μ-loop
-mul-put-line-2 c = let i = c .before .before .before .loop .inv in let p = c .before .before .before .before .before .before .before .pre in omega (arith, i .1 .size)
+mul-put-line-2 c =
+    let s = c .before .before .before .before .before .before .before in
+    let i = c .before .before .before .loop .inv in
+    let p = s .pre in omega (arith, i .1 .size)
 
 mul-put-line-3 : tie.Need-mul-put-line-3 Inv-loop μ-loop
-mul-put-line-3 c = let i = c .before .before .before .loop .inv in let p = c .before .before .before .before .before .before .before .pre in omega (arith, i .1 .size)
+mul-put-line-3 c =
+    let s = c .before .before .before .before .before .before .before in
+    let i = c .before .before .before .loop .inv in
+    let p = s .pre in omega (arith, i .1 .size)
 
 sub-put-line : tie.Need-sub-put-line Inv-loop μ-loop
-sub-put-line c = let i = c .before .before .before .loop .inv in let p = c .before .before .before .before .before .before .before .pre in omega (arith, i .1 .size)
+sub-put-line c =
+    let s = c .before .before .before .before .before .before .before in
+    let i = c .before .before .before .loop .inv in
+    let p = s .pre in omega (arith, i .1 .size)
 
 part-put-line-start : tie.Need-part-put-line-start Inv-loop μ-loop
-part-put-line-start c = let i = c .before .before .before .loop .inv in let p = c .before .before .before .before .before .before .before .pre in omega (arith, i .1 .size)
+part-put-line-start c =
+    let s = c .before .before .before .before .before .before .before in
+    let i = c .before .before .before .loop .inv in
+    let p = s .pre in omega (arith, i .1 .size)
 
 part-put-line-end : tie.Need-part-put-line-end Inv-loop μ-loop
 part-put-line-end c = search needs
@@ -69,10 +81,14 @@ loop-less c = search needs
 
 loop-again : tie.Need-loop-again Inv-loop μ-loop
 loop-again c =
-    let p = c .before .before .before .before .before .before .before .before .before .before .before .before .pre in
-    let l = c .before .before .before .before .before .before .before .before .loop in
-    let h = c .before .before .before .before .before .before .before .loop-test .taken in
-    (search needs, writing-next _ _ _ _ _ _ _ _ _ (c .before .before .before .before .before .before .load .ensures) (omega arith) (c .count-facts .ensures) (c .before .before .before .put-line .ensures) (l .inv .1))
+    let at-load = c .before .before .before .before .before .before in
+    let at-loop-test = at-load .before in
+    let at-loop = at-loop-test .before in
+    let s = at-loop .before .before .before .before in
+    let p = s .pre in
+    let l = at-loop .loop in
+    let h = at-loop-test .loop-test .taken in
+    (search needs, writing-next _ _ _ _ _ _ _ _ _ (at-load .load .ensures) (omega arith) (c .count-facts .ensures) (c .before .before .before .put-line .ensures) (l .inv .1))
 
 same-length : tie.Need-same-length Inv-loop μ-loop
 same-length c = c .before .loop .inv .1 .size

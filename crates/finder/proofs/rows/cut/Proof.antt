@@ -39,9 +39,10 @@ loop-less c = search needs
 
 loop-again : tie.Need-loop-again Inv-loop μ-loop
 loop-again c =
-    let s = c .before .before .before .before .before .before .before .before in
+    let at-loop = c .before .before .before .before .before in
+    let s = at-loop .before .before .before in
     let e = c .before .before .meet-at .ensures in
-    (search needs, rw (e .0, e .1) (meeting-next _ _ _ _ _ _ (c .before .before .before .before .before .loop .inv .1) (omega (arith, s .pre .words))))
+    (search needs, rw (e .0, e .1) (meeting-next _ _ _ _ _ _ (at-loop .loop .inv .1) (omega (arith, s .pre .words))))
 
 raise-requires : tie.Need-raise-requires Inv-loop μ-loop
 raise-requires c κs = let s = c .before .before .before .before .before .before in s .pre .flag

@@ -10,7 +10,8 @@ use Rattle.finder.proofs.search.prepare.Statement.{statement}
 use Rattle.finder.proofs.search.prepare.Tie as tie
 
 abbrev Inv-loop : tie.InvT-loop
-Inv-loop rule code notes₀ flags₀ most l₀ l-end notes flags l = (l ≤ l-end) × (l-end ≡ length code) × Prepared notes₀ flags₀ (factsOf most) notes flags l
+Inv-loop rule code notes₀ flags₀ most l₀ l-end notes flags l =
+    (l ≤ l-end) × (l-end ≡ length code) × Prepared notes₀ flags₀ (factsOf most) notes flags l
 
 abbrev μ-loop : tie.MeasureT-loop
 μ-loop rule code notes₀ flags₀ most l₀ l-end notes flags l = l-end - l
@@ -43,7 +44,9 @@ loop-less c = search needs
 
 loop-again : tie.Need-loop-again Inv-loop μ-loop
 loop-again c =
-    (search needs, search needs, prepared-next _ _ _ _ _ _ _ _ (c .before .before .before .before .before .before .before .before .before .loop .inv .2) (c .before .before .before .before .before .before .put .ensures) (c .before .before .raise .ensures))
+    let at-put = c .before .before .before .before .before .before in
+    let at-loop = at-put .before .before .before in
+    (search needs, search needs, prepared-next _ _ _ _ _ _ _ _ (at-loop .loop .inv .2) (at-put .put .ensures) (c .before .before .raise .ensures))
 
 first-facts-requires : tie.Need-first-facts-requires Inv-loop μ-loop
 first-facts-requires c κs = let s = c .before .before .before .before .before .before .before .before in few-nodes _ _ (s .pre .0)
@@ -61,12 +64,15 @@ same-length-2 c = c .before .before .before .before .before .before .loop .inv .
 
 returns : tie.Need-returns Inv-loop μ-loop
 returns c =
-    let s = c .before .before .before .before .before .before .before .before .before .before .before .before in
-    let i = c .before .before .before .before .before .before .loop .inv in
-    let e : c .before .before .before .before .before .before .loop .l ≡ length (s .args .code .now) = omega arith in (
+    let at-loop = c .before .before .before .before .before .before in
+    let at-belonging = at-loop .before in
+    let s = at-belonging .before .before .before .before .before in
+    let i = at-loop .loop .inv in
+    let e : at-loop .loop .l ≡ length (s .args .code .now) = omega arith in (
       c .before .before .put2 .ensures .size ∙ i .2 .notes-size,
       i .2 .flags-size,
-      prepared-end _ _ _ _ _ _ _ (s .pre .0) _ _ (c .before .before .before .before .before .before .before .belonging .ensures) (c .before .before .before .first-facts .ensures) (rw e at (i .2)) (c .before .before .put2 .ensures),
+      prepared-end _ _ _ _ _ _ _ (s .pre .0) _ _ (at-belonging .belonging .ensures) (c .before .before .before .first-facts .ensures)
+          (rw e at (i .2)) (c .before .before .put2 .ensures),
     )
 
 pub prepare-spec : {M : Type 1} → statement M

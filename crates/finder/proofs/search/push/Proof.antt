@@ -50,35 +50,50 @@ add-push-to c = search needs
 
 push-to-requires-2 : tie.Need-push-to-requires-2
 push-to-requires-2 c κs =
-    let s = c .before .before .before .before .before .before .before .before .before .before .before .before .before .before .before .before .before .before .before .before .before .before in
+    let at-push-to = c .before .before .before .before .before .before .before in
+    let at-lower = at-push-to .before .before .before .before .before .before in
+    let at-load = at-lower .before .before in
+    let s = at-load .before .before .before .before .before .before .before in
     let p = s .pre in
     let on = c .before .before .goes-on .ensures in
-    let w = c .before .before .before .before .before .before .before .push-to .ensures .lessens in (
+    let w = at-push-to .push-to .ensures .lessens in (
       rule-passed _ _ (p .0),
       names-at _ _ (p .0) _ (p .2),
-      facts-closed _ _ (p .0) _ _ (p .3) _ (p .2) _ (c .before .before .before .before .before .before .before .before .before .before .before .before .before .before .before .load .ensures),
+      facts-closed _ _ (p .0) _ _ (p .3) _ (p .2) _ (at-load .load .ensures),
       λ e. let h = room-line _ _ _ _ (next-in _ _ (p .0) _ (p .2) (sym on ∙ e)) (p .1) in
-          record { words = omega (arith, h .words, w .notes-size); flag = omega (arith, h .flag, w .flags-size, c .before .before .before .before .before .before .before .before .before .before .before .before .before .lower .ensures .size) },
+          record { words = omega (arith, h .words, w .notes-size); flag = omega (arith, h .flag, w .flags-size, at-lower .lower .ensures .size) },
     )
 
 same-length : tie.Need-same-length
-same-length c = c .before .before .before .before .push-to2 .ensures .lessens .notes-size ∙ c .before .before .before .before .before .before .before .before .before .before .before .before .push-to .ensures .lessens .notes-size
+same-length c =
+    let at-push-to2 = c .before .before .before .before in
+    let at-push-to = at-push-to2 .before .before .before .before .before .before .before .before in
+    at-push-to2 .push-to2 .ensures .lessens .notes-size ∙ at-push-to .push-to .ensures .lessens .notes-size
 
 same-length-2 : tie.Need-same-length-2
 same-length-2 c =
-    c .before .before .before .before .push-to2 .ensures .lessens .flags-size ∙ c .before .before .before .before .before .before .before .before .before .before .before .before .push-to .ensures .lessens .flags-size ∙ c .before .before .before .before .before .before .before .before .before .before .before .before .before .before .before .before .before .before .lower .ensures .size
+    let at-push-to2 = c .before .before .before .before in
+    let at-push-to = at-push-to2 .before .before .before .before .before .before .before .before in
+    let at-lower = at-push-to .before .before .before .before .before .before in
+    at-push-to2 .push-to2 .ensures .lessens .flags-size ∙ at-push-to .push-to .ensures .lessens .flags-size ∙ at-lower .lower .ensures .size
 
 returns : tie.Need-returns
 returns c =
-    let s = c .before .before .before .before .before .before .before .before .before .before .before .before .before .before .before .before .before .before .before .before .before .before .before .before .before .before .before in
+    let at-push-to2 = c .before .before .before .before in
+    let at-goes-on = at-push-to2 .before .before .before in
+    let at-push-to = at-goes-on .before .before .before .before .before in
+    let at-has-target = at-push-to .before .before .before in
+    let at-lower = at-has-target .before .before .before in
+    let at-load = at-lower .before .before in
+    let s = at-load .before .before .before .before .before .before .before in
     let a = s .args in
     let p = s .pre in
-    push-done (a .rule .now) (a .code .now) (a .notes .now) (a .flags .now) (a .l) _ _ _ _ _ _ _ _ (p .0) (c .before .before .before .before .before .before .before .before .before .before .before .before .before .before .before .before .before .before .before .before .load .ensures)
-    (leads (a .rule .now) (a .code .now) (a .l) (c .before .before .before .before .before .before .before .before .before .before .before .before .before .before .before .has-target .result)
-    (c .before .before .before .before .before .before .before .goes-on .result) _ (p .2)
-    (c .before .before .before .before .before .before .before .before .before .before .before .before .before .before .before .has-target .ensures) (c .before .before .before .before .before .before .before .goes-on .ensures))
-    (spread-by _ _ _ _ _ _ _ _ _ _ _ _ _ _ (c .before .before .before .before .before .before .before .before .before .before .before .before .before .before .before .before .before .before .lower .ensures)
-    (c .before .before .before .before .before .before .before .before .before .before .before .before .push-to .ensures) (c .before .before .before .before .push-to2 .ensures))
+    push-done (a .rule .now) (a .code .now) (a .notes .now) (a .flags .now) (a .l) _ _ _ _ _ _ _ _ (p .0) (at-load .load .ensures)
+    (leads (a .rule .now) (a .code .now) (a .l) (at-has-target .has-target .result)
+    (at-goes-on .goes-on .result) _ (p .2)
+    (at-has-target .has-target .ensures) (at-goes-on .goes-on .ensures))
+    (spread-by _ _ _ _ _ _ _ _ _ _ _ _ _ _ (at-lower .lower .ensures)
+    (at-push-to .push-to .ensures) (at-push-to2 .push-to2 .ensures))
 
 pub push-spec : {M : Type 1} → statement M
 push-spec =

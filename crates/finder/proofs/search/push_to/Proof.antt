@@ -17,7 +17,11 @@ same-length-2 : tie.Need-same-length-2
 same-length-2 c = search needs
 
 returns : tie.Need-returns
-returns c = way-some _ _ _ _ _ _ _ _ _ (c .before .before .before .before .before .before .before .before .if1 .taken) (c .before .before .before .before .before .pass-on .ensures) (c .before .before .before .before .cut .ensures)
+returns c =
+    let at-cut = c .before .before .before .before in
+    let at-pass-on = at-cut .before in
+    let at-if1 = at-pass-on .before .before .before in
+    way-some _ _ _ _ _ _ _ _ _ (at-if1 .if1 .taken) (at-pass-on .pass-on .ensures) (at-cut .cut .ensures)
 
 returns-2 : tie.Need-returns-2
 returns-2 c = rw (c .if1 .left) (way-none _ _ _)

@@ -41,7 +41,10 @@ loop-less : tie.Need-loop-less Inv-loop μ-loop
 loop-less c = omega (arith, c .next-flag2 .ensures .from, c .before .before .before .before .before .before .before .before .before .loop-test .taken)
 
 loop-again : tie.Need-loop-again Inv-loop μ-loop
-loop-again c = swept-next _ _ _ _ _ _ _ _ _ _ _ _ (c .before .before .before .before .before .before .before .before .before .before .loop .inv) (c .before .before .before .before .before .before .push .ensures) (c .next-flag2 .ensures)
+loop-again c =
+    let at-push = c .before .before .before .before .before .before in
+    let at-loop = at-push .before .before .before .before in
+    swept-next _ _ _ _ _ _ _ _ _ _ _ _ (at-loop .loop .inv) (at-push .push .ensures) (c .next-flag2 .ensures)
 
 same-length : tie.Need-same-length Inv-loop μ-loop
 same-length c = c .before .loop .inv .searched .lessens .notes-size
