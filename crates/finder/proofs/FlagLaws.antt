@@ -3,7 +3,7 @@
 --     raised, lowered                          a flag set, a flag taken away
 --     Looking, looking-start, looking-on, looking-found, looking-end    a loop that looks for the next flag
 -- Assumes nothing.
-use mathlib.Core.Path.{_≡_, refl, sym, subst, ap, _∙_}
+use mathlib.Core.Path.{_≡_, refl, sym, ap, _∙_}
 use mathlib.Core.Logic.{_⊎_, inl, inr}
 use mathlib.Core.Bool.{Bool, true, false, not, _&&_, _||_}
 use mathlib.Core.List.{List}

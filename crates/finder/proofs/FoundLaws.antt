@@ -14,11 +14,11 @@ use native.Mathlib.Omega.{arith}
 use lib.ListN.{length, getD, take, drop, length-append}
 use lib.Seq.{take-at}
 use borrow.Author.Tests.{le-leb, lt-leb}
-use Rattle.spec.specs.Questions.{Answer, passed, refused, Checked, _then_}
-use Rattle.spec.specs.Rule.{form32, lastNode, tableOf, checkRule}
-use Rattle.spec.specs.Script.{Code, instructionRead, instructionAt, isPresent, bareCode, bareStored, annotatedOpcode, checkCode, wordFor}
-use Rattle.spec.specs.Facts.{Fact, valueIs, Facts, close}
-use Rattle.spec.specs.Check.{Line, Lines, lineAt, lineWords, wordsOf, presentKnown, checkScript}
+use Rattle.spec.specs.Questions.{Answer, passed, refused, _then_}
+use Rattle.spec.specs.Rule.{form32, lastNode}
+use Rattle.spec.specs.Script.{Code, instructionRead, instructionAt, isPresent, bareCode, wordFor}
+use Rattle.spec.specs.Facts.{valueIs, Facts, close}
+use Rattle.spec.specs.Check.{Line, lineAt, lineWords, wordsOf, presentKnown, checkScript}
 use Rattle.largest.specs.Notes.{Notes, notesOf}
 use Rattle.largest.specs.Largest.{factsIn, countFacts, annotate, checkInstructions, foundLines, question19, checkFound, foundWords, foundCount, roomForFound, foundAnswer, foundOutput}
 use Rattle.largest.specs.Found.{Largest}
@@ -30,7 +30,7 @@ use Rattle.spec.proofs.ClosingLaws.{extends}
 use Rattle.spec.proofs.StoredLaws.{good32}
 use Rattle.largest.proofs.CountLaws.{count-narrow}
 use Rattle.largest.proofs.LargestLaws.{largest-closed}
-use Rattle.largest.proofs.LargestLoop.{found-lines, found-same, line-annotate, length-annotate, count-as}
+use Rattle.largest.proofs.LargestLoop.{found-lines, line-annotate, count-as}
 use Rattle.largest.proofs.ObeyLaws.{code-at, length-bare, fit-again}
 use Rattle.largest.proofs.LargestPromise.{ready, finding, found-whole}
 use Rattle.finder.specs.Rows.{tableIn, notesAt, Asked, LargestAt}
@@ -73,7 +73,8 @@ module _ (rule ws notes : List ℕ) (asked : Asked rule ws) (a : LargestAt rule 
       ∙ ap (λ i. record { instruction = i; annotation = notesAt notes l }) (code-at ws l)
 
   -- T of the last node, in facts that are closed
-  last-closed : (l : ℕ) → l < length ws → notesAt notes l (valueIs true) (length rule - 1) ≡ close (tableIn rule) (notesAt notes l) (valueIs true) (lastNode (tableIn rule))
+  last-closed : (l : ℕ) → l < length ws
+      → notesAt notes l (valueIs true) (length rule - 1) ≡ close (tableIn rule) (notesAt notes l) (valueIs true) (lastNode (tableIn rule))
   last-closed l h =
       let t = tableIn rule in
       let r = ready form32 rule ws asked in

@@ -9,22 +9,21 @@
 --     settled-largest                     the end
 -- Assumes nothing.
 use mathlib.Core.Path.{_≡_, refl, sym, subst, ap, _∙_, fun-ext}
-use mathlib.Core.Logic.{_⊎_, inl, inr}
-use mathlib.Core.Bool.{Bool, true, false, not, cond, _&&_, _||_}
+use mathlib.Core.Logic.{inl, inr}
+use mathlib.Core.Bool.{Bool, true, false, cond, _||_}
 use mathlib.Core.Option.{Option, none, some}
-use mathlib.Core.List.{List, [], _∷_}
+use mathlib.Core.List.{List}
 use Prim.Native.Nat.{ℕ, zero, suc, _+_, _*_, _%_, _≤_, _<_}
 use native.Mathlib.Nat.{le-refl}
 use native.Mathlib.Numerals.{add-one}
 use native.Mathlib.Omega.{arith}
 use lib.ListN.{length, getD, set, length-set, replicate, length-replicate}
 use lib.Seq.{getD-set-same, getD-set-other}
-use lib.Dec.{ltb}
 use borrow.Author.Tests.{ltb-true}
 use Rattle.spec.specs.Questions.{passed}
-use Rattle.spec.specs.Rule.{form32, Table, tableOf, checkRule}
+use Rattle.spec.specs.Rule.{form32, Table, checkRule}
 use Rattle.spec.specs.Script.{fieldsOf, instructionRead, Code, bareCode, instructionAt, targetOf, goesOn, namesAllowed, isLine, followersExist}
-use Rattle.spec.specs.Facts.{Fact, wordNumber, Facts, _⊑_, belongs, close, pass, firstFacts}
+use Rattle.spec.specs.Facts.{wordNumber, Facts, _⊑_, belongs, close, pass, firstFacts}
 use Rattle.spec.specs.Check.{passedOn}
 use Rattle.largest.specs.Notes.{Notes, followerOf, passedAt, Obeys, startNotes}
 use Rattle.spec.proofs.BoolLaws.{clash, and-both, not-either, bool-ext, le-or-lt}
@@ -35,7 +34,7 @@ use Rattle.largest.proofs.LargestLaws.{passed-mono, around-start, around-same, 
 use Rattle.largest.proofs.LargestLoop.{flagged-start, flagged-next, flagged-end}
 use Rattle.largest.proofs.LargestPromise.{ready}
 use Rattle.sets.specs.Sets.{setOf, capacity}
-use Rattle.checker.specs.FactSets.{wordOf, factsOf}
+use Rattle.checker.specs.FactSets.{factsOf}
 use Rattle.checker.specs.declared.facts.Facts.{Facts as FactWords}
 use Rattle.script.specs.Lines.{targetWhere}
 use Rattle.finder.specs.Rows.{tableIn, notesAt, flagOf, HasLine, Room, Asked, total, Put, FlagSet, NextFlag, Search, Searched, Pushed, Swept, LargestAt}
@@ -74,7 +73,8 @@ module _ (rule ws : List ℕ) (asked : Asked rule ws) where
   pub facts-closed : (notes flags : List ℕ) → Search (tableIn rule) (bareCode ws) notes flags → (l : ℕ) → l < length ws → (F : Facts) → F ≡ notesAt notes l
       → close (tableIn rule) F ≡ F
   facts-closed notes flags s l h F e =
-      fun-ext (λ f. fun-ext (λ k. bool-ext _ _ (subst (λ G. close (tableIn rule) G ⊑ G) (sym e) (s .closed l (omega (arith, length-bare ws))) f k) (extends (tableIn rule) F f k)))
+      let closed = subst (λ G. close (tableIn rule) G ⊑ G) (sym e) (s .closed l (omega (arith, length-bare ws))) in
+      fun-ext (λ f. fun-ext (λ k. bool-ext _ _ (closed f k) (extends (tableIn rule) F f k)))
 
   pub some-node : 0 < length rule
   some-node = omega (arith, ready form32 rule ws asked .some-node, length-table form32 rule)

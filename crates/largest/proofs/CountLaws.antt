@@ -2,14 +2,13 @@
 --     count-mono          notes that lie within others count no more
 --     count-same          and if they count as many, the others lie within them
 --     count-narrow        counting further nodes that have no facts changes nothing
---     ones-most, facts-most, count-most    at most seven facts of each node at each line
 --     count-words         they are the ones over the seven words of each line
 use mathlib.Core.Path.{_≡_, refl, sym, ap, ap₂, _∙_}
 use mathlib.Core.Logic.{inl, inr}
 use mathlib.Core.Bool.{cond, Bool, true, false}
 use mathlib.Core.List.{List, [], _∷_, _++_}
 use Prim.Native.Nat.{ℕ, zero, suc, _+_, _*_, _^_, _≤_, _<_}
-use native.Mathlib.Nat.{le-refl, suc-mul}
+use native.Mathlib.Nat.{le-refl}
 use native.Mathlib.Omega.{arith}
 use lib.Count as bits
 use lib.Count.{ones-cat}
@@ -32,10 +31,6 @@ one-mono false false h = omega arith
 one-fewer : (a b : Bool) → a ≡ false → b ≡ true → (cond a 1 0) < (cond b 1 0)
 one-fewer a b p q = rw (p, q) (le-refl 1)
 
-pub one-most : (a : Bool) → (cond a 1 0) ≤ 1
-one-most true = omega arith
-one-most false = omega arith
-
 pub ones-mono : (n : ℕ) (p q : ℕ → Bool) → ((k : ℕ) → k < n → p k ≡ true → q k ≡ true) → countBelow n p ≤ countBelow n q
 unfolding countBelow
 ones-mono zero p q h = omega arith
@@ -52,11 +47,6 @@ ones-fewer (suc n) p q h k l a b =
           omega (arith, ones-mono n p q (λ j i. h j (omega arith)), one-fewer (p n) (q n) (rw z at a) (rw z at b))
       | inr u ↦ omega (arith, ones-fewer n p q (λ j i. h j (omega arith)) k u a b, one-mono (p n) (q n) (h n (omega arith)))
     ]
-
-pub ones-most : (n : ℕ) (p : ℕ → Bool) → countBelow n p ≤ n
-unfolding countBelow
-ones-most zero p = omega arith
-ones-most (suc n) p = omega (arith, ones-most n p, one-most (p n))
 
 module _ (width : ℕ) where
   facts-mono : (F G : Facts) → F ⊑ G → factsIn width F ≤ factsIn width G
@@ -80,12 +70,6 @@ module _ (width : ℕ) where
       go keptIsPrior d = omega (arith, of (valueIs true), of (valueIs false), of (priorIs true), of (priorIs false), of workIsNext, of workIsPrior)
       go workIsNext d = omega (arith, of (valueIs true), of (valueIs false), of (priorIs true), of (priorIs false), of keptIsPrior, of workIsPrior)
       go workIsPrior d = omega (arith, of (valueIs true), of (valueIs false), of (priorIs true), of (priorIs false), of keptIsPrior, of workIsNext)
-
-  pub facts-most : (F : Facts) → factsIn width F ≤ 7 * width
-  unfolding factsIn
-  facts-most F =
-      let of : (f : Fact) → countBelow width (F f) ≤ width = λ f. ones-most width (F f) in
-      omega (arith, of (valueIs true), of (valueIs false), of (priorIs true), of (priorIs false), of keptIsPrior, of workIsNext, of workIsPrior)
 
   pub count-mono : (n : ℕ) (N N′ : Notes) → ((l : ℕ) → l < n → N l ⊑ N′ l) → countFacts width n N ≤ countFacts width n N′
   unfolding countFacts
@@ -112,11 +96,6 @@ module _ (width : ℕ) where
         | inl a ↦ a
         | inr a ↦ absurd (omega (arith, count-fewer n N N′ h l i f k j a b))
       ]
-
-  pub count-most : (n : ℕ) (N : Notes) → countFacts width n N ≤ n * (7 * width)
-  unfolding countFacts
-  count-most zero N = omega arith
-  count-most (suc n) N = rw (suc-mul n (7 * width)) (omega (arith, count-most n N, facts-most (N n)))
 
 -- ---- nodes past the last have no facts to count
 
@@ -176,7 +155,8 @@ unfolding factWord countBelow
 word-ones zero i p = none-set
 word-ones (suc n) i p =
     ap bits.ones (top-bit n (factWord n (suc i) p) (p i)) ∙ ones-cat n (cond (p i) 1 0) (factWord n (suc i) p) (word-small n (suc i) p)
-    ∙ ap₂ _+_ (one-set (p i)) (word-ones n (suc i) p ∙ ones-same n (λ k. p (suc i + k)) (λ k. p (i + suc k)) (λ k. ap p (let z : suc i + k ≡ i + suc k = omega arith in z)))
+    ∙ ap₂ _+_ (one-set (p i)) (word-ones n (suc i) p
+    ∙ ones-same n (λ k. p (suc i + k)) (λ k. p (i + suc k)) (λ k. ap p (let z : suc i + k ≡ i + suc k = omega arith in z)))
     ∙ ap (λ j. cond (p j) 1 0 + countBelow n (λ k. p (i + suc k))) (let z : i ≡ i + 0 = omega arith in z)
     ∙ sym (ones-front n (λ k. p (i + k)))
 
@@ -187,7 +167,9 @@ set-ones width p = word-ones width 0 p ∙ ones-same width (λ k. p (0 + k)) p (
 line-ones : (form : Form) (x : Line) (rest : List ℕ) → onesOf (take 7 (drop 1 (lineWords form x ++ rest))) ≡ factsIn (form .width) (x .annotation)
 unfolding lineWords onesOf factsIn
 line-ones form x rest =
-    let of : (f : Fact) → bits.ones (factWord (form .width) 0 (x .annotation f)) ≡ countBelow (form .width) (x .annotation f) = λ f. set-ones (form .width) (x .annotation f) in
+    let of : (f : Fact) → bits.ones (factWord (form .width) 0 (x .annotation f)) ≡ countBelow (form .width) (x .annotation f) =
+    λ f. set-ones (form .width) (x .annotation f)
+    in
     omega (arith, of (valueIs true), of (valueIs false), of (priorIs true), of (priorIs false), of keptIsPrior, of workIsNext, of workIsPrior)
 
 count-front : (width n : ℕ) (N : Notes) → countFacts width (suc n) N ≡ factsIn width (N 0) + countFacts width n (λ l. N (suc l))

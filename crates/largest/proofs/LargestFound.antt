@@ -238,9 +238,10 @@ module _ (width : ℕ) (t : Table) (ordered : InOrder t) (few : length t ≤ wid
           → LargestLines t code (elim b as (λ x. Lines) [ true ↦ next | false ↦ settle width t sweeps next ])
       go true e ih = record {
         same-code = a .lines .code-is;
-        largest = found-end t ordered code (notesOf ls) (notesOf next) (a .lines .around) (subst (λ j. Swept t code (notesOf ls) (notesOf next) j) m (a .swept))
-            (λ l i f k d. count-same width (length ls) (notesOf next) (notesOf ls) (λ l′ i′. a .swept .within l′ (omega (arith, m))) (rw n at (eqb-true (countIn width next) (countIn width ls) e)) l (omega (arith, m)) f k
-            (slim (notesOf ls) (s .around) l i f k d) d);
+        largest = found-end t ordered code (notesOf ls) (notesOf next) (a .lines .around)
+            (subst (λ j. Swept t code (notesOf ls) (notesOf next) j) m (a .swept))
+            (λ l i f k d. count-same width (length ls) (notesOf next) (notesOf ls) (λ l′ i′. a .swept .within l′ (omega (arith, m)))
+            (rw n at (eqb-true (countIn width next) (countIn width ls) e)) l (omega (arith, m)) f k (slim (notesOf ls) (s .around) l i f k d) d);
       }
       go false e ih = ih (omega (arith, fewer, eqb-false (countIn width next) (countIn width ls) e))
 

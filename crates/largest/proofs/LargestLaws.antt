@@ -4,7 +4,7 @@
 --     Cut                 one step of a search (its invariant, `Around`, is in specs/): the notes of one line cut down to a set, the others as they were
 --     around-start, around-same, around-cut-to, around-cut    the invariant at the start; kept by a cut to what a line leading there passes on
 --     Swept               a sweep's invariant: what line l < j passed on at the sweep's start holds the notes of its followers
---     swept-start, swept-cut, swept-next
+--     swept-start, swept-next
 --     found-end           a sweep that took nothing away ends with the largest notes
 --     largest-unique      there is one largest
 --     largest-closed      its notes are closed
@@ -135,12 +135,6 @@ module _ (t : Table) (ordered : InOrder t) (code : Code) where
   pub swept-start : (N : Notes) → Swept t code N N 0
   swept-start N = record { within = λ l h f k e. e; passed = λ l m taken h. absurd (omega arith) }
 
-  pub swept-cut : (N₀ N N′ : Notes) (j m : ℕ) (G : Facts) → Swept t code N₀ N j → Cut code N N′ m G → Swept t code N₀ N′ j
-  swept-cut N₀ N N′ j m G s c = record {
-    within = within-trans code N′ N N₀ (c .within) (s .within);
-    passed = λ l n taken h h′ w. ⊑-trans _ _ _ (c .within n h′) (s .passed l n taken h h′ w);
-  }
-
   pub swept-next : (N₀ N : Notes) (j : ℕ) → Swept t code N₀ N j
       → ((m : ℕ) (taken : Bool) → m < length code → followerOf j (instructionAt code j) taken ≡ some m → N m ⊑ passedAt t code j taken (N₀ j))
       → Swept t code N₀ N (suc j)
@@ -174,14 +168,17 @@ module _ (t : Table) (ordered : InOrder t) (code : Code) where
   largest-closed N a l h = a .holds-all (λ m. close t (N m)) (record {
     belong = λ m h′. close-belongs t ordered (N m) (a .obeys .belong m h′);
     first = λ h′. close-into t ordered (N 0) _ (a .obeys .first h′);
-    passes = λ m n taken h₁ h₂ w. ⊑-trans _ _ _ (close-into t ordered (N n) _ (a .obeys .passes m n taken h₁ h₂ w)) (passed-mono m taken (N m) (close t (N m)) (extends t (N m)));
+    passes = λ m n taken h₁ h₂ w. ⊑-trans _ _ _ (close-into t ordered (N n) _ (a .obeys .passes m n taken h₁ h₂ w))
+        (passed-mono m taken (N m) (close t (N m)) (extends t (N m)));
   }) l h
 
   -- a line that nothing leads to: with every fact that belongs there, notes that obey still do
   pub unreached-all : (N : Notes) (l : ℕ) → LargestNotes t code N → Unreached code l → belongs t ⊑ N l
   unreached-all N l a u f k e = a .holds-all M (record {
     belong = λ m h. either-way m (belongs t) (λ x j d. d) (a .obeys .belong m h);
-    first = λ h. let z : eqb 0 l ≡ false = ne-eqb 0 l (λ d. omega (arith, u .later)) in subst (λ b. cond b (belongs t) (N 0) ⊑ firstFacts t) (sym z) (a .obeys .first h);
+    first = λ h.
+        let z : eqb 0 l ≡ false = ne-eqb 0 l (λ d. omega (arith, u .later)) in
+        subst (λ b. cond b (belongs t) (N 0) ⊑ firstFacts t) (sym z) (a .obeys .first h);
     passes = λ m n taken h₁ h₂ w. ⊑-trans _ _ _ (not-there m n taken h₁ w (a .obeys .passes m n taken h₁ h₂ w)) (passed-mono m taken (N m) (M m) (more m h₁));
   }) l (u .isLine) f k (ap (λ b. cond b (belongs t) (N l) f k) (eq-eqb l l refl) ∙ e)
     where

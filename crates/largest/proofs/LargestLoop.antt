@@ -2,37 +2,30 @@
 -- pushed. On plain values; with `around-start`, `around-cut` and `Cut` of `LargestLaws`.
 --     Lowered                         every flag that is down: the line is the one pushed or had none, and kept its notes
 --     flagged-start, flagged-next, flagged-end
---     count-falls                     the measure: notes that lost a fact count less
 --     found-same, found-lines         the notes at the end are those of `search`, and so are the lines written
 --     count-as                        the same facts count the same
---     meet-closed                     cutting closed notes to a closed set leaves them closed
 --     length-annotate, line-annotate  the lines written
---     word-of-bits                    a word whose bits are the facts is their stored word
 -- Assumes nothing.
 use mathlib.Core.Path.{_≡_, refl, sym, ap, _∙_}
 use mathlib.Core.Logic.{_⊎_, inl, inr}
-use mathlib.Core.Bool.{cond, Bool, true, false}
+use mathlib.Core.Bool.{Bool, true, false}
 use mathlib.Core.Option.{some}
 use mathlib.Core.List.{[], _∷_}
-use Prim.Native.Nat.{ℕ, zero, suc, _+_, _-_, _*_, _/_, _%_, _^_, _≤_, _<_}
-use native.Mathlib.Nat.{mod-eq-of-lt}
-use lib.Pow.{mod-pow-add}
+use Prim.Native.Nat.{ℕ, zero, suc, _-_, _≤_, _<_}
 use native.Mathlib.Omega.{arith}
 use lib.ListN.{length, length-map}
 use lib.Seq.{ext-getD}
-use lib.Dec.{eqb}
 use Rattle.spec.specs.Rule.{Table}
 use Rattle.spec.specs.Script.{Instruction, Code, instructionAt}
-use Rattle.spec.specs.Facts.{Fact, Facts, _⊑_, close}
-use Rattle.spec.specs.Check.{Line, Lines, lineAt, codeOf, factWord}
+use Rattle.spec.specs.Facts.{Fact, Facts, _⊑_}
+use Rattle.spec.specs.Check.{Line, Lines, lineAt, codeOf}
 use Rattle.largest.specs.Notes.{Notes, notesOf, followerOf, passedAt, NotesWithin, LargestNotes, Around, Flagged}
 use Rattle.largest.specs.Largest.{countFacts, annotate, search}
-use Rattle.spec.proofs.BoolLaws.{clash, le-or-lt}
+use Rattle.spec.proofs.BoolLaws.{clash}
 use Rattle.spec.proofs.RuleLaws.{InOrder}
 use Rattle.spec.proofs.FactLaws.{⊑-trans}
-use Rattle.spec.proofs.ClosingLaws.{close-mono}
 use Rattle.spec.proofs.PlaceLaws.{noLine, instruction-at}
-use Rattle.largest.proofs.CountLaws.{count-mono, count-same}
+use Rattle.largest.proofs.CountLaws.{count-mono}
 use Rattle.largest.proofs.LargestLaws.{passed-mono, largest-unique}
 use Rattle.largest.proofs.LargestFound.{largest-found}
 
@@ -89,7 +82,8 @@ module _ (t : Table) (ordered : InOrder t) (code : Code) where
     holds-all = r .holds-all;
   }
 
-  pub found-same : (width : ℕ) → length t ≤ width → (N : Notes) → LargestNotes t code N → (l : ℕ) → l < length code → (f : Fact) (k : ℕ) → N l f k ≡ notesOf (search width t code) l f k
+  pub found-same : (width : ℕ) → length t ≤ width → (N : Notes) → LargestNotes t code N → (l : ℕ) → l < length code → (f : Fact) (k : ℕ)
+      → N l f k ≡ notesOf (search width t code) l f k
   found-same width few N a = largest-unique t ordered code N (notesOf (search width t code)) a (largest-found width t ordered few code .largest)
 
   -- so are the lines written
@@ -104,45 +98,7 @@ module _ (t : Table) (ordered : InOrder t) (code : Code) where
       (sym (ap (λ c. instructionAt c l) same) ∙ instruction-at ls l _ refl)
       (found-same width few N a l h′))
 
--- notes that lie within others, and not the other way round, count less
-pub count-falls : (width : ℕ) (code : Code) (N N′ : Notes) → NotesWithin code N N′
-    → (((l : ℕ) → l < length code → (f : Fact) (k : ℕ) → k < width → N′ l f k ≡ true → N l f k ≡ true) → ⊥)
-    → countFacts width (length code) N < countFacts width (length code) N′
-count-falls width code N N′ w changed =
-    let m = count-mono width (length code) N N′ w in
-    elim (le-or-lt (countFacts width (length code) N′) (countFacts width (length code) N)) [
-      | inl h ↦ absurd (changed (count-same width (length code) N N′ w (omega arith)))
-      | inr h ↦ h
-    ]
-
-pub meet-closed : (t : Table) → InOrder t → (F G H : Facts) → close t F ⊑ F → close t G ⊑ G → H ⊑ F → H ⊑ G
-    → ((f : Fact) (k : ℕ) → F f k ≡ true → G f k ≡ true → H f k ≡ true) → close t H ⊑ H
-meet-closed t ordered F G H a b u v m f k e =
-    m f k (a f k (close-mono t ordered H F u f k e)) (b f k (close-mono t ordered H G v f k e))
-
 -- the same facts count the same
 pub count-as : (width n : ℕ) (N N′ : Notes) → ((l : ℕ) → l < n → (f : Fact) (k : ℕ) → N l f k ≡ N′ l f k) → countFacts width n N ≡ countFacts width n N′
 count-as width n N N′ h =
     omega (arith, count-mono width n N N′ (λ l i f k e. sym (h l i f k) ∙ e), count-mono width n N′ N (λ l i f k e. h l i f k ∙ e))
-
--- ---- stored words
-
-digit : (b x : ℕ) → b < 2 → (cond (eqb b 1) x 0) ≡ b * x
-digit zero x h = omega arith
-digit (suc zero) x h = omega arith
-digit (suc (suc b)) x h = absurd (omega arith)
-
-bits-word : (width w : ℕ) (p : ℕ → Bool) → ((k : ℕ) → k < width → p k ≡ eqb (w / 2 ^ (width - 1 - k) % 2) 1)
-    → (n i : ℕ) → i + n ≡ width → factWord n i p ≡ w % 2 ^ n
-unfolding factWord
-bits-word width w p h zero i e = omega arith
-bits-word width w p h (suc n) i e =
-    let place : width - 1 - i ≡ n = omega arith in
-    let bit : p i ≡ eqb (w / 2 ^ n % 2) 1 = h i (omega arith) ∙ ap (λ x. eqb (w / 2 ^ x % 2) 1) place in
-    ap (λ b. (cond b (2 ^ n) 0) + factWord n (suc i) p) bit
-    ∙ ap (λ x. x + factWord n (suc i) p) (digit (w / 2 ^ n % 2) (2 ^ n) (omega arith))
-    ∙ ap (λ x. w / 2 ^ n % 2 * 2 ^ n + x) (bits-word width w p h n (suc i) (omega arith))
-    ∙ sym (mod-pow-add w 1 n) ∙ ap (λ x. w % 2 ^ x) (let z : 1 + n ≡ suc n = omega arith in z)
-
-pub word-of-bits : (width w : ℕ) (p : ℕ → Bool) → w < 2 ^ width → ((k : ℕ) → k < width → p k ≡ eqb (w / 2 ^ (width - 1 - k) % 2) 1) → factWord width 0 p ≡ w
-word-of-bits width w p small h = bits-word width w p h width 0 (omega arith) ∙ mod-eq-of-lt small

@@ -4,16 +4,15 @@
 --     finding                  the promise, for every stored form
 -- Assumes nothing.
 use mathlib.Core.Path.{_≡_, refl, sym, subst, ap, _∙_}
-use mathlib.Core.Logic.{_⊎_, inl, inr}
+use mathlib.Core.Logic.{inl, inr}
 use mathlib.Core.Bool.{Bool, true, false, not, _||_}
-use mathlib.Core.Option.{Option, none, some}
 use mathlib.Core.List.{List, [], _∷_}
-use Prim.Native.Nat.{ℕ, suc, _+_, _*_, _/_, _%_, _^_, _≤_, _<_}
+use Prim.Native.Nat.{ℕ, suc, _*_, _/_, _%_, _^_, _≤_, _<_}
 use native.Mathlib.Omega.{arith}
 use lib.ListN.{length, getD, take, drop}
 use lib.Seq.{take-at}
 use borrow.Author.Tests.{le-leb, eq-eqb}
-use Rattle.spec.specs.Questions.{Checked, _then_, firstFailing, noAt, ask, askOnce, passed, refused}
+use Rattle.spec.specs.Questions.{Checked, _then_, ask, askOnce, passed, refused}
 use Rattle.spec.specs.Rule.{Form, Table, tableOf, lastNode, question1, question2, question3, question4, checkRule}
 use Rattle.spec.specs.Script.{Instruction, Code, instructionAt, isPresent, fieldsOf, instructionRead, fieldsFor, wordFor, Stored, bareStored, bareCode, mostLines, question5, annotatedOpcode, lineAllowed, question6, followersExist, question7, checkCode}
 use Rattle.spec.specs.Facts.{_⊑_, belongs, close, valueIs}

@@ -1,7 +1,6 @@
 -- `finder::search::sweep` meets its contract. The loop keeps: the lines with a flag before l were pushed (`Rows.Swept`). Assumes nothing.
 use borrow.Author.Needs.{needs}
 use Prim.Native.Nat.{_-_}
-use mathlib.Core.Path.{_≡_}
 use native.Mathlib.Omega.{arith}
 use lib.ListN.{length}
 use Rattle.finder.specs.Rows.{Swept}
