@@ -20,7 +20,7 @@ use Rattle.spec.specs.Script.{Code, instructionRead, instructionAt, isPresent, 
 use Rattle.spec.specs.Facts.{valueIs, Facts, close}
 use Rattle.spec.specs.Check.{Line, lineAt, lineWords, wordsOf, presentKnown, checkScript}
 use Rattle.largest.specs.Notes.{Notes, notesOf}
-use Rattle.largest.specs.Largest.{factsIn, countFacts, annotate, checkInstructions, foundLines, question19, checkFound, foundWords, foundCount, roomForFound, foundAnswer, foundOutput}
+use Rattle.largest.specs.Largest.{factsIn, countFacts, annotate, checkInstructions, foundLines, question19, checkFound, foundWords, foundCount, foundAnswer, foundOutput}
 use Rattle.largest.specs.Found.{Largest}
 use Rattle.spec.proofs.BoolLaws.{bool-ext}
 use Rattle.spec.proofs.QuestionLaws.{then-passed, then-refused, once-in, once-no}
@@ -190,11 +190,11 @@ module _ (rule ws out : List ℕ) where
     found-passed = found-after asked ∙ known
 
     pub room-no : length out < 8 * length ws → Gives rule ws out (refused 13 0) out
-    unfolding foundAnswer roomForFound
+    unfolding foundAnswer
     room-no h = refusal 13 0 (then-passed _ _ found-passed ∙ then-refused _ _ 13 0 (once-no 13 _ (lt-leb (8 * length ws) (length out) h)))
 
     answer-yes : 8 * length ws ≤ length out → foundAnswer form32 rule ws out ≡ passed (foundCount form32 rule ws)
-    unfolding foundAnswer roomForFound
+    unfolding foundAnswer
     answer-yes h = then-passed _ _ found-passed ∙ then-passed _ _ (once-in 13 _ (le-leb (8 * length ws) (length out) h))
 
     largest : Largest form32 (checkScript form32 rule) ws (foundWords form32 rule ws)

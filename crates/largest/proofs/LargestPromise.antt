@@ -3,15 +3,15 @@
 --     found-largest, found-read, largest-obeying    the lines found
 --     finding                  the promise, for every stored form
 -- Assumes nothing.
-use mathlib.Core.Path.{_≡_, refl, sym, subst, ap, _∙_}
-use mathlib.Core.Logic.{inl, inr}
+use mathlib.Core.Path.{_≡_, refl, sym, subst, ap, _∙_, fun-ext}
+use mathlib.Core.Logic.{_⊎_, inl, inr}
 use mathlib.Core.Bool.{Bool, true, false, not, _||_}
 use mathlib.Core.List.{List, [], _∷_}
 use Prim.Native.Nat.{ℕ, suc, _*_, _/_, _%_, _^_, _≤_, _<_}
 use native.Mathlib.Omega.{arith}
 use lib.ListN.{length, getD, take, drop}
 use lib.Seq.{take-at}
-use borrow.Author.Tests.{le-leb, eq-eqb}
+use borrow.Author.Tests.{le-leb, lt-leb, eq-eqb}
 use Rattle.spec.specs.Questions.{Checked, _then_, ask, askOnce, passed, refused}
 use Rattle.spec.specs.Rule.{Form, Table, tableOf, lastNode, question1, question2, question3, question4, checkRule}
 use Rattle.spec.specs.Script.{Instruction, Code, instructionAt, isPresent, fieldsOf, instructionRead, fieldsFor, wordFor, Stored, bareStored, bareCode, mostLines, question5, annotatedOpcode, lineAllowed, question6, followersExist, question7, checkCode}
@@ -20,10 +20,10 @@ use Rattle.spec.specs.Check.{Lines, lineAt, codeOf, linesOf, annotatedStored, f
 use Rattle.spec.specs.Weaver.{outputFor}
 use Rattle.spec.specs.Promise.{Accepted}
 use Rattle.largest.specs.Notes.{notesOf, Obeys}
-use Rattle.largest.specs.Largest.{checkInstructions, foundLines, question19, checkFound, foundWords, foundCount, roomForFound, foundAnswer, foundOutput}
+use Rattle.largest.specs.Largest.{checkInstructions, foundLines, question19, checkFound, foundWords, foundCount, foundAnswer, foundOutput}
 use Rattle.largest.specs.Found.{Annotates, checkObeying, Within, Largest, KnownAt, Lacking, Unreached, onesOver, Found}
 use Rattle.spec.proofs.BoolLaws.{clash, both-and, not-either, bool-ext, le-or-lt}
-use Rattle.spec.proofs.QuestionLaws.{then-passed, then-refused, both-passed, then-no, once-in, once-out, once-number, ask-in, ask-out, ask-lowest}
+use Rattle.spec.proofs.QuestionLaws.{then-passed, then-refused, both-passed, then-no, once-in, once-no, once-out, once-number, ask-in, ask-out, ask-lowest, ask-either}
 use Rattle.spec.proofs.RuleLaws.{InOrder, length-table, rule-out}
 use Rattle.spec.proofs.FactLaws.{belongs-in}
 use Rattle.spec.proofs.ClosingLaws.{extends}
@@ -276,8 +276,9 @@ module _ (form : Form) (g : GoodForm form) (rule ws : List ℕ) where
     }
 
     -- a line that nothing leads to
-    found-unreached : (l : ℕ) → Unreached bare l → belongs t ⊑ notesOf (linesOf form (foundWords form rule ws)) l
-    found-unreached l u = rw found-read (unreached-all t (r .ordered) bare (notesOf found) l (found-largest .largest) u)
+    found-unreached : (l : ℕ) → Unreached bare l → notesOf (linesOf form (foundWords form rule ws)) l ≡ belongs t
+    found-unreached l u = rw found-read (fun-ext (λ f. fun-ext (λ k. bool-ext _ _
+        (found-largest .largest .obeys .belong l (u .isLine) f k) (unreached-all t (r .ordered) bare (notesOf found) l (found-largest .largest) u f k))))
 
     found-count : foundCount form rule ws ≡ onesOver (length ws) (foundWords form rule ws)
     unfolding foundCount foundWords
@@ -338,13 +339,30 @@ module _ (form : Form) (g : GoodForm form) (rule ws : List ℕ) where
       k .without (written-known r p (closed-found r p (k .isThere) (valueIs true) (lastNode t)
       (not-either (isPresent (lineAt found p .instruction)) _ c (sym (same-present r p) ∙ k .atPresent))))
 
+  either-way : checkInstructions form rule ws ≡ passed tt → (checkFound form rule ws ≡ passed tt) ⊎ ((p : ℕ) × (checkFound form rule ws ≡ refused 19 p))
+  unfolding checkFound question19
+  either-way e = elim (ask-either 19 (length ws) (λ l. presentKnown t (lineAt found l))) [
+    | inl a ↦ inl (then-passed _ _ e ∙ a)
+    | inr (p, a) ↦ inr (p, then-passed _ _ e ∙ a)
+  ]
+
+  -- a refusal leaves the output
+  untouched : (q p : ℕ) (out : List ℕ) → foundAnswer form rule ws out ≡ refused q p
+      → (foundAnswer form rule ws out ≡ refused q p) × (foundOutput form rule ws out ≡ out)
+  unfolding foundOutput
+  untouched q p out e = (e, ap (λ a. outputFor (foundWords form rule ws) a out) e)
+
   no-answer : (q p : ℕ) → checkFound form rule ws ≡ refused q p → (out : List ℕ) → foundAnswer form rule ws out ≡ refused q p
   unfolding foundAnswer
   no-answer q p e out = then-refused _ _ q p e
 
+  short-answer : checkFound form rule ws ≡ passed tt → (out : List ℕ) → length out < 8 * length ws → foundAnswer form rule ws out ≡ refused 13 0
+  unfolding foundAnswer
+  short-answer e out h = then-passed _ _ e ∙ then-refused _ _ 13 0 (once-no 13 _ (lt-leb (8 * length ws) (length out) h))
+
   yes-answer : checkFound form rule ws ≡ passed tt → (out : List ℕ) → 8 * length ws ≤ length out
       → foundAnswer form rule ws out ≡ passed (foundCount form rule ws)
-  unfolding foundAnswer roomForFound
+  unfolding foundAnswer
   yes-answer e out h = then-passed _ _ e ∙ then-passed _ _ (once-in 13 _ (le-leb (8 * length ws) (length out) h))
 
   written-first : checkFound form rule ws ≡ passed tt → (out : List ℕ) → 8 * length ws ≤ length out
@@ -358,11 +376,13 @@ module _ (form : Form) (g : GoodForm form) (rule ws : List ℕ) where
   finding = record {
     searched = λ e. largest-obeying (ready form rule ws e);
     unreached = λ e. found-unreached (ready form rule ws e);
+    either = either-way;
     lacking = lacks;
     hopeless = none-help;
     largest = λ e. largest-accepted (found-first e) (found-accepted (found-first e) (found-last e));
-    refuses = no-answer;
+    refuses = λ q p e out. untouched q p out (no-answer q p e out);
     succeeds = λ e out h. (yes-answer e out h, written-first e out h);
+    short = λ e out h. untouched 13 0 out (short-answer e out h);
     sameWords = λ e. found-words (ready form rule ws e);
     counted = λ e. found-count (ready form rule ws e);
     unique = λ check a b x y. largest-one form ws check a b x y;

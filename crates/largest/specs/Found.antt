@@ -2,6 +2,7 @@
 -- checker's own questions, for any stored form. `proofs/LargestPromise.antt` proves it.
 use mathlib.Core.Path.{_≡_}
 use mathlib.Core.Bool.{Bool, true}
+use mathlib.Core.Logic.{_⊎_}
 use mathlib.Core.Option.{some}
 use mathlib.Core.List.{List, [], _∷_}
 use Prim.Native.Nat.{ℕ, zero, suc, _+_, _*_, _^_, _≤_, _<_}
@@ -81,7 +82,10 @@ pub record Found (form : Form) (rule instructions : List ℕ) : Type 0 where
       → Largest form (checkObeying form rule) instructions (foundWords form rule instructions)
   -- Lines that nothing leads to get every fact that belongs.
   pub unreached : checkInstructions form rule instructions ≡ passed tt → (l : ℕ) → Unreached (bareCode instructions) l
-      → belongs (tableOf form rule) ⊑ notesOf (linesOf form (foundWords form rule instructions)) l
+      → notesOf (linesOf form (foundWords form rule instructions)) l ≡ belongs (tableOf form rule)
+  -- After questions 1 to 7 the answer is 19 or a yes.
+  pub either : checkInstructions form rule instructions ≡ passed tt
+      → (checkFound form rule instructions ≡ passed tt) ⊎ ((p : ℕ) × (checkFound form rule instructions ≡ refused 19 p))
   -- 19 is given at the lowest present that they leave without T of the last node,
   pub lacking : (p : ℕ) → checkFound form rule instructions ≡ refused 19 p → Lacking form rule instructions p
   -- and then no facts whatever would get these instructions accepted.
@@ -90,12 +94,16 @@ pub record Found (form : Form) (rule instructions : List ℕ) : Type 0 where
   -- Otherwise what is written is accepted, and those of any other accepted notes lie within it.
   pub largest : checkFound form rule instructions ≡ passed tt
       → Largest form (checkScript form rule) instructions (foundWords form rule instructions)
-  -- A no to questions 1 to 7 or to 19 is the answer whatever output is lent: 13 is put after them.
-  pub refuses : (q p : ℕ) → checkFound form rule instructions ≡ refused q p → (out : List ℕ) → foundAnswer form rule instructions out ≡ refused q p
+  -- A no to questions 1 to 7 or to 19 is the answer whatever output is lent, and that stays: 13 is put after them.
+  pub refuses : (q p : ℕ) → checkFound form rule instructions ≡ refused q p → (out : List ℕ)
+      → (foundAnswer form rule instructions out ≡ refused q p) × (foundOutput form rule instructions out ≡ out)
   -- Otherwise it succeeds if the output is large enough, and the lines stand at its start.
   pub succeeds : checkFound form rule instructions ≡ passed tt → (out : List ℕ) → lineLength * length instructions ≤ length out
       → (foundAnswer form rule instructions out ≡ passed (foundCount form rule instructions))
       × (take (lineLength * length instructions) (foundOutput form rule instructions out) ≡ foundWords form rule instructions)
+  -- If it is too small the answer is 13, and it stays.
+  pub short : checkFound form rule instructions ≡ passed tt → (out : List ℕ) → length out < lineLength * length instructions
+      → (foundAnswer form rule instructions out ≡ refused 13 0) × (foundOutput form rule instructions out ≡ out)
   -- The first word of each line written is the instruction given, where that has 32 bits.
   pub sameWords : checkInstructions form rule instructions ≡ passed tt → (l : ℕ) → l < length instructions → getD instructions l 0 < 2 ^ 32
       → getD (foundWords form rule instructions) (lineLength * l) 0 ≡ form .storeFirst (getD instructions l 0)

@@ -6,15 +6,15 @@
 use mathlib.Core.Bool.{Bool, true, false, _&&_}
 use mathlib.Core.Option.{Option, none, some}
 use mathlib.Core.List.{List, [], _∷_, map}
-use Prim.Native.Nat.{ℕ, zero, suc, _+_, _*_}
+use Prim.Native.Nat.{ℕ, zero, suc, _+_}
 use lib.ListN.{length}
-use lib.Dec.{eqb, leb}
-use Rattle.spec.specs.Questions.{countBelow, Answer, passed, Checked, _then_, ask, askOnce}
-use Rattle.spec.specs.Rule.{Form, Table, tableOf, checkRule}
-use Rattle.spec.specs.Script.{Code, bareStored, bareCode, annotatedOpcode, checkCode}
+use lib.Dec.{eqb}
+use Rattle.spec.specs.Questions.{countBelow, Answer, passed, Checked, _then_, ask}
+use Rattle.spec.specs.Rule.{Form, Table, tableOf}
+use Rattle.spec.specs.Script.{Code, bareCode, annotatedOpcode, checkWords}
 use Rattle.spec.specs.Facts.{valueIs, priorIs, keptIsPrior, workIsNext, workIsPrior, everyFact, Facts}
-use Rattle.spec.specs.Check.{Lines, lineAt, factsRead, factWord, lineLength, wordsOf, passedOn, presentKnown}
-use Rattle.spec.specs.Weaver.{outputFor}
+use Rattle.spec.specs.Check.{Lines, lineAt, factsRead, factWord, wordsOf, passedOn, presentKnown}
+use Rattle.spec.specs.Weaver.{roomForLines, outputFor}
 use Rattle.largest.specs.Notes.{Notes, notesOf, followerOf, startNotes}
 
 -- ---- how many facts, counted over the seven words of each line
@@ -22,7 +22,8 @@ use Rattle.largest.specs.Notes.{Notes, notesOf, followerOf, startNotes}
 -- the facts of one line
 unfoldable pub factsIn : (width : ℕ) → Facts → ℕ
 factsIn width F =
-    countBelow width (F (valueIs true)) + countBelow width (F (valueIs false)) + countBelow width (F (priorIs true)) + countBelow width (F (priorIs false))
+    countBelow width (F (valueIs true)) + countBelow width (F (valueIs false))
+    + countBelow width (F (priorIs true)) + countBelow width (F (priorIs false))
     + countBelow width (F keptIsPrior) + countBelow width (F workIsNext) + countBelow width (F workIsPrior)
 
 -- of n lines
@@ -87,7 +88,7 @@ search width t code =
 
 -- such instructions, one word a line with the opcodes of annotated scripts, after the rule: questions 1 to 7
 unfoldable pub checkInstructions : Form → (rule instructions : List ℕ) → Checked
-checkInstructions form rule ws = checkRule form rule then checkCode (tableOf form rule) annotatedOpcode (bareStored ws)
+checkInstructions form rule ws = checkWords form annotatedOpcode rule ws
 
 -- the lines with the largest facts
 unfoldable pub foundLines : Form → (rule instructions : List ℕ) → Lines
@@ -108,12 +109,9 @@ foundWords form rule ws = wordsOf form (foundLines form rule ws)
 unfoldable pub foundCount : Form → (rule instructions : List ℕ) → ℕ
 foundCount form rule ws = countFacts (form .width) (length ws) (notesOf (foundLines form rule ws))
 
--- 13, after 19: eight words for each line in the output?
-unfoldable pub roomForFound : (instructions out : List ℕ) → Checked
-roomForFound ws out = askOnce 13 (leb (lineLength * length ws) (length out))
-
+-- 13 after 19
 unfoldable pub foundAnswer : Form → (rule instructions out : List ℕ) → Answer ℕ
-foundAnswer form rule ws out = checkFound form rule ws then roomForFound ws out then passed (foundCount form rule ws)
+foundAnswer form rule ws out = checkFound form rule ws then roomForLines (length ws) out then passed (foundCount form rule ws)
 
 -- the lent output afterwards: the annotated lines, and later words stay; a refusal changes nothing
 unfoldable pub foundOutput : Form → (rule instructions out : List ℕ) → List ℕ
