@@ -13,7 +13,6 @@ use native.Mathlib.Numerals.{add-one}
 use native.Mathlib.Omega.{arith}
 use lib.ListN.{length, getD, take, drop, length-append}
 use lib.Seq.{take-at}
-use borrow.Author.Tests.{le-leb, lt-leb}
 use Rattle.spec.specs.Questions.{Answer, passed, refused, _then_}
 use Rattle.spec.specs.Rule.{form32, lastNode}
 use Rattle.spec.specs.Script.{Code, instructionRead, instructionAt, isPresent, bareCode, wordFor}
@@ -21,9 +20,9 @@ use Rattle.spec.specs.Facts.{valueIs, Facts, close}
 use Rattle.spec.specs.Check.{Line, lineAt, lineWords, wordsOf, presentKnown, checkScript}
 use Rattle.largest.specs.Notes.{Notes, notesOf}
 use Rattle.largest.specs.Largest.{factsIn, countFacts, annotate, checkInstructions, foundLines, question19, checkFound, foundWords, foundCount, foundAnswer, foundOutput}
-use Rattle.largest.specs.Found.{Largest}
+use Rattle.largest.specs.Found.{Largest, Found}
 use Rattle.spec.proofs.BoolLaws.{bool-ext}
-use Rattle.spec.proofs.QuestionLaws.{then-passed, then-refused, once-in, once-no}
+use Rattle.spec.proofs.QuestionLaws.{then-passed, then-refused}
 use Rattle.spec.proofs.RuleLaws.{length-table}
 use Rattle.spec.proofs.FactLaws.{belongs-in}
 use Rattle.spec.proofs.ClosingLaws.{extends}
@@ -32,7 +31,7 @@ use Rattle.largest.proofs.CountLaws.{count-narrow}
 use Rattle.largest.proofs.LargestLaws.{largest-closed}
 use Rattle.largest.proofs.LargestLoop.{found-lines, line-annotate, count-as}
 use Rattle.largest.proofs.ObeyLaws.{code-at, length-bare, fit-again}
-use Rattle.largest.proofs.LargestPromise.{ready, finding, found-whole}
+use Rattle.largest.proofs.LargestPromise.{ready, finding}
 use Rattle.finder.specs.Rows.{tableIn, notesAt, Asked, LargestAt}
 use Rattle.output.specs.Written.{storedLine, over}
 use Rattle.finder.specs.Kept.{gather, keptLines}
@@ -168,49 +167,40 @@ Gives rule ws out a out′ =
     (a ≡ foundAnswer form32 rule ws out) × ((out′ ≡ foundOutput form32 rule ws out) × HandsOut rule ws a out′)
 
 module _ (rule ws out : List ℕ) where
+  abbrev promised : Found form32 rule ws
+  promised = finding form32 good32 rule ws
+
   -- a refusal
-  refusal : (q i : ℕ) → foundAnswer form32 rule ws out ≡ refused q i → Gives rule ws out (refused q i) out
-  unfolding foundOutput
-  refusal q i e = (sym e, (rw e refl, λ n d. let z : _≡_ {A = ℕ} 0 1 = cc in absurd (omega arith)))
+  refusal : (q i : ℕ) → (foundAnswer form32 rule ws out ≡ refused q i) × (foundOutput form32 rule ws out ≡ out) → Gives rule ws out (refused q i) out
+  refusal q i e = (sym (e .0), (sym (e .1), λ n d. let z : _≡_ {A = ℕ} 0 1 = cc in absurd (omega arith)))
 
   found-after : checkInstructions form32 rule ws ≡ passed tt → checkFound form32 rule ws ≡ question19 form32 rule ws
   unfolding checkFound
   found-after e = then-passed _ _ e
 
   pub seven-no : (q i : ℕ) → checkInstructions form32 rule ws ≡ refused q i → Gives rule ws out (refused q i) out
-  unfolding foundAnswer checkFound
-  seven-no q i e = refusal q i (then-refused _ _ q i (then-refused _ _ q i e))
+  unfolding checkFound
+  seven-no q i e = refusal q i (promised .refuses q i (then-refused _ _ q i e) out)
 
   pub nineteen-no : (q i : ℕ) → Asked rule ws → question19 form32 rule ws ≡ refused q i → Gives rule ws out (refused q i) out
-  unfolding foundAnswer
-  nineteen-no q i asked e = refusal q i (then-refused _ _ q i (found-after asked ∙ e))
+  nineteen-no q i asked e = refusal q i (promised .refuses q i (found-after asked ∙ e) out)
 
   module _ (asked : Asked rule ws) (known : question19 form32 rule ws ≡ passed tt) where
     found-passed : checkFound form32 rule ws ≡ passed tt
     found-passed = found-after asked ∙ known
 
     pub room-no : length out < 8 * length ws → Gives rule ws out (refused 13 0) out
-    unfolding foundAnswer
-    room-no h = refusal 13 0 (then-passed _ _ found-passed ∙ then-refused _ _ 13 0 (once-no 13 _ (lt-leb (8 * length ws) (length out) h)))
-
-    answer-yes : 8 * length ws ≤ length out → foundAnswer form32 rule ws out ≡ passed (foundCount form32 rule ws)
-    unfolding foundAnswer
-    answer-yes h = then-passed _ _ found-passed ∙ then-passed _ _ (once-in 13 _ (le-leb (8 * length ws) (length out) h))
-
-    largest : Largest form32 (checkScript form32 rule) ws (foundWords form32 rule ws)
-    largest = finding form32 good32 rule ws .largest found-passed
+    room-no h = refusal 13 0 (promised .short found-passed out h)
 
     whole : length (foundWords form32 rule ws) ≡ 8 * length ws
-    whole = found-whole form32 good32 rule ws (ready form32 rule ws asked)
+    whole = promised .largest found-passed .annotates .whole
 
     pub all-yes : (out′ : List ℕ) (count : ℕ) → 8 * length ws ≤ length out → count ≡ foundCount form32 rule ws
         → out′ ≡ over (foundWords form32 rule ws) out → Gives rule ws out (passed count) out′
     unfolding foundOutput
-    all-yes out′ count h e d = (
-      ap passed e ∙ sym (answer-yes h),
-      (
-        d ∙ rw (answer-yes h) refl,
-        λ n z. subst (Largest form32 (checkScript form32 rule) ws)
-            (sym (ap (take (8 * length ws)) d ∙ take-at (foundWords form32 rule ws) (drop (length (foundWords form32 rule ws)) out) (8 * length ws) whole)) largest,
-      ),
-    )
+    all-yes out′ count h e d =
+        let yes = promised .succeeds found-passed out h .0 in
+        let first = ap (take (8 * length ws)) d ∙ take-at (foundWords form32 rule ws) (drop (length (foundWords form32 rule ws)) out) (8 * length ws) whole in (
+          ap passed e ∙ sym yes,
+          (d ∙ rw yes refl, λ n z. subst (Largest form32 (checkScript form32 rule) ws) (sym first) (promised .largest found-passed)),
+        )

@@ -181,23 +181,23 @@ module _ (t : Table) (ordered : InOrder t) (code : Code) (notes flags : List ℕ
   }
 
 pub push-done : (rule ws notes flags : List ℕ) (l : ℕ) (o p : Option ℕ) (F Y N : Facts) (notes′ flags′ : List ℕ) (r : Bool) → Asked rule ws
-    → F ≡ notesAt notes l → Leads (tableIn rule) (bareCode ws) l o p F Y N → Spread notes flags l o p Y N notes′ flags′ r
-    → Pushed rule ws notes flags l notes′ flags′ r
-push-done rule ws notes flags l o p F Y N notes′ flags′ r asked e w d = record {
+    → Search (tableIn rule) (bareCode ws) notes flags → F ≡ notesAt notes l → Leads (tableIn rule) (bareCode ws) l o p F Y N
+    → Spread notes flags l o p Y N notes′ flags′ r → Pushed rule ws notes flags l notes′ flags′ r
+push-done rule ws notes flags l o p F Y N notes′ flags′ r asked s e w d = record {
   searched = record {
     lessens = d .lessens;
-    keeps = search-on (tableIn rule) (ordered rule ws asked) (bareCode ws) notes flags l o p Y N notes′ flags′ r d
-        (subst (λ G. Leads (tableIn rule) (bareCode ws) l o p G Y N) e w);
+    known = search-on (tableIn rule) (ordered rule ws asked) (bareCode ws) notes flags l o p Y N notes′ flags′ r d
+        (subst (λ G. Leads (tableIn rule) (bareCode ws) l o p G Y N) e w) s;
   };
   down = d .same;
 }
 
 -- ---- a sweep
 
-nothing-done : (rule ws notes flags : List ℕ) → Searched rule ws notes flags notes flags false
-nothing-done rule ws notes flags = record {
+nothing-done : (rule ws notes flags : List ℕ) → Search (tableIn rule) (bareCode ws) notes flags → Searched rule ws notes flags notes flags false
+nothing-done rule ws notes flags s = record {
   lessens = record { notes-size = refl; flags-size = refl; no-more = le-refl _; less = λ d. clash d refl };
-  keeps = λ s. s;
+  known = s;
 }
 
 searched-both : (rule ws notes notes′ notes″ flags flags′ flags″ : List ℕ) (r r′ : Bool)
@@ -213,11 +213,12 @@ searched-both rule ws notes notes′ notes″ flags flags′ flags″ r r′ s v
       | inr u ↦ omega (arith, v .lessens .no-more, s .lessens .less u)
     ];
   };
-  keeps = λ x. v .keeps (s .keeps x);
+  known = v .known;
 }
 
-pub swept-start : (rule ws notes flags : List ℕ) (l : ℕ) → NextFlag flags 0 (length ws) l → Swept rule ws notes flags notes flags false l
-swept-start rule ws notes flags l n = record { searched = nothing-done rule ws notes flags; down = λ d j h i. n .noneBefore j (omega arith) h i }
+pub swept-start : (rule ws notes flags : List ℕ) (l : ℕ) → Search (tableIn rule) (bareCode ws) notes flags → NextFlag flags 0 (length ws) l
+    → Swept rule ws notes flags notes flags false l
+swept-start rule ws notes flags l s n = record { searched = nothing-done rule ws notes flags s; down = λ d j h i. n .noneBefore j (omega arith) h i }
 
 -- line l was pushed, and the next flag is at line m
 pub swept-next : (rule ws notes flags notes′ flags′ notes″ flags″ : List ℕ) (again r : Bool) (l m : ℕ)
@@ -242,11 +243,11 @@ swept-end rule ws notes flags notes′ flags′ r l h s = record { searched = s 
 pub record Settling (rule ws notes flags notes′ flags′ : List ℕ) (again : Bool) : Type 0 where
   pub notes-size : length notes′ ≡ length notes
   pub flags-size : length flags′ ≡ length flags
-  pub keeps : Search (tableIn rule) (bareCode ws) notes flags → Search (tableIn rule) (bareCode ws) notes′ flags′
+  pub known : Search (tableIn rule) (bareCode ws) notes′ flags′
   pub down : again ≡ false → (l : ℕ) → l < length ws → flagOf flags′ l ≡ false
 
-pub settling-start : (rule ws notes flags : List ℕ) → Settling rule ws notes flags notes flags true
-settling-start rule ws notes flags = record { notes-size = refl; flags-size = refl; keeps = λ s. s; down = λ d. clash refl d }
+pub settling-start : (rule ws notes flags : List ℕ) → Search (tableIn rule) (bareCode ws) notes flags → Settling rule ws notes flags notes flags true
+settling-start rule ws notes flags s = record { notes-size = refl; flags-size = refl; known = s; down = λ d. clash refl d }
 
 pub settling-next : (rule ws notes flags notes′ flags′ notes″ flags″ : List ℕ) (again r : Bool)
     → Settling rule ws notes flags notes′ flags′ again → Swept rule ws notes′ flags′ notes″ flags″ r (length ws)
@@ -254,7 +255,7 @@ pub settling-next : (rule ws notes flags notes′ flags′ notes″ flags″ : L
 settling-next rule ws notes flags notes′ flags′ notes″ flags″ again r s v = record {
   notes-size = v .searched .lessens .notes-size ∙ s .notes-size;
   flags-size = v .searched .lessens .flags-size ∙ s .flags-size;
-  keeps = λ x. v .searched .keeps (s .keeps x);
+  known = v .searched .known;
   down = λ e l h. v .down e l h h;
 }
 

@@ -99,10 +99,10 @@ pub record Search (t : Table) (code : Code) (notes flags : List ℕ) : Type 0 wh
   pub flagged : Flagged t code (flagOf flags) (notesAt notes)
   pub closed : (l : ℕ) → l < length code → close t (notesAt notes l) ⊑ notesAt notes l
 
--- a part of the search: what is known is kept; r: some notes changed
+-- after a part of the search; r: some notes changed
 pub record Searched (rule instructions notes flags notes′ flags′ : List ℕ) (r : Bool) : Type 0 where
   pub lessens : Lessens notes flags notes′ flags′ r
-  pub keeps : Search (tableIn rule) (bareCode instructions) notes flags → Search (tableIn rule) (bareCode instructions) notes′ flags′
+  pub known : Search (tableIn rule) (bareCode instructions) notes′ flags′
 
 -- line l was pushed: if nothing changed, its flag went down and the others stayed
 pub record Pushed (rule instructions notes flags : List ℕ) (l : ℕ) (notes′ flags′ : List ℕ) (r : Bool) : Type 0 where
@@ -118,7 +118,7 @@ pub record Swept (rule instructions notes flags notes′ flags′ : List ℕ) (r
 pub record Settled (rule instructions notes flags notes′ flags′ : List ℕ) : Type 0 where
   pub notes-size : length notes′ ≡ length notes
   pub flags-size : length flags′ ≡ length flags
-  pub keeps : Search (tableIn rule) (bareCode instructions) notes flags → Search (tableIn rule) (bareCode instructions) notes′ flags′
+  pub known : Search (tableIn rule) (bareCode instructions) notes′ flags′
   pub down : (l : ℕ) → l < length instructions → flagOf flags′ l ≡ false
 
 -- the notes found

@@ -88,7 +88,7 @@ returns c =
     let s = at-load .before .before .before .before .before .before .before in
     let a = s .args in
     let p = s .pre in
-    push-done (a .rule .now) (a .code .now) (a .notes .now) (a .flags .now) (a .l) _ _ _ _ _ _ _ _ (p .0) (at-load .load .ensures)
+    push-done (a .rule .now) (a .code .now) (a .notes .now) (a .flags .now) (a .l) _ _ _ _ _ _ _ _ (p .0) (p .3) (at-load .load .ensures)
     (leads (a .rule .now) (a .code .now) (a .l) (at-has-target .has-target .result)
     (at-goes-on .goes-on .result) _ (p .2)
     (at-has-target .has-target .ensures) (at-goes-on .goes-on .ensures))

@@ -18,13 +18,13 @@ next-flag-requires : tie.Need-next-flag-requires Inv-loop μ-loop
 next-flag-requires c κs = let s = c .before .before .before .before .before in (s .pre .1 .marks, few-lines _ _ (s .pre .0))
 
 loop-holds : tie.Need-loop-holds Inv-loop μ-loop
-loop-holds c = swept-start _ _ _ _ _ (c .next-flag .ensures)
+loop-holds c = let s = c .before .before .before .before .before .before in swept-start _ _ _ _ _ (s .pre .2) (c .next-flag .ensures)
 
 push-requires : tie.Need-push-requires Inv-loop μ-loop
 push-requires c κs =
     let s = c .before .before .before .before .before .before .before .before .before .before in
     let i = c .before .before .before .loop .inv .searched in
-    (s .pre .0, room-same _ _ _ _ _ (i .lessens .notes-size) (i .lessens .flags-size) (s .pre .1), c .before .before .loop-test .taken, i .keeps (s .pre .2))
+    (s .pre .0, room-same _ _ _ _ _ (i .lessens .notes-size) (i .lessens .flags-size) (s .pre .1), c .before .before .loop-test .taken, i .known)
 
 add-next-flag : tie.Need-add-next-flag Inv-loop μ-loop
 add-next-flag c = search needs
