@@ -10,10 +10,10 @@ use Prim.Native.Nat.{ℕ, zero, suc, _+_, _-_, _≤_, _<_}
 use native.Mathlib.Omega.{arith}
 use lib.ListN.{length, getD, length-map}
 use lib.Dec.{ltb, leb, eqb}
-use borrow.Author.Tests.{lt-ltb, le-leb, eq-eqb}
+use borrow.Author.Tests.{lt-ltb, le-leb}
 use Rattle.spec.specs.Logic.{Test, equal, below, equalRegisters, Formula, never, test, implies, since, weakPrevious}
 use Rattle.spec.specs.Questions.{passed, _then_}
-use Rattle.spec.specs.Rule.{Form, Node, falseNode, testNode, impliesNode, sinceNode, weakPreviousNode, nodeOf, fieldsOfNode, Table, tableOf, ruleOf, question1, nodeAllowed, fieldsFit, question2, question3, question4, checkRule}
+use Rattle.spec.specs.Rule.{Form, Node, falseNode, testNode, impliesNode, sinceNode, weakPreviousNode, nodeOf, fieldsOfNode, Table, tableOf, ruleOf, question1, nodeAllowed, fieldsFit, question2, question3, question4, mentions, checkRule}
 use Rattle.spec.proofs.BoolLaws.{both-and}
 use Rattle.spec.proofs.QuestionLaws.{then-passed, once-in, ask-in}
 use Rattle.spec.proofs.NodeWordLaws.{SmallFields, node-fields, fields-fit}
@@ -146,7 +146,8 @@ module _ (form : Form) (good : GoodForm form) where
 
     four : question4 (nodesFrom 0 φ) ≡ passed tt
     unfolding question4
-    four = ask-in 4 _ _ (λ k h. eq-eqb _ 1 (mentioned φ 0 .inside k (omega arith) (let l = length-nodes φ 0 in omega arith)))
+    four = ask-in 4 _ _ (λ k h.
+        le-leb 1 (mentions (nodesFrom 0 φ) k) (omega (arith, mentioned φ 0 .inside k (omega arith) (let l = length-nodes φ 0 in omega arith))))
 
     pub words-accepted : checkRule form (ruleWords form φ) ≡ passed tt
     unfolding checkRule

@@ -131,7 +131,7 @@ module _ (width : ℕ) (t : Table) (ordered : InOrder t) (few : length t ≤ wid
     around : Around t code (notesOf ls)
 
   slim : (N : Notes) → Around t code N → (l : ℕ) → l < length code → (f : Fact) (k : ℕ) → N l f k ≡ true → k < width
-  slim N r l h f k e = omega (arith, belongs-in t f k (r .belong l h f k e))
+  slim N r l h f k e = omega (arith, belongs-in t ordered f k (r .belong l h f k e))
 
   narrow-cut : (ls : Lines) (m : ℕ) (G : Facts) → Around t code (notesOf ls) → Cut code (notesOf ls) (notesOf (narrow width m G ls)) m G
   narrow-cut ls m G r = record {

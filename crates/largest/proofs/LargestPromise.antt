@@ -118,14 +118,14 @@ module _ (form : Form) (g : GoodForm form) (rule ws : List ℕ) where
   found = foundLines form rule ws
 
   -- any annotation of these instructions that obeys questions 8, 9 and 11
-  obeying-says : (lines : List ℕ) → Annotates form ws lines → checkObeying form rule lines ≡ passed tt → Obeys t bare (notesOf (linesOf form lines))
+  obeying-says : InOrder t → (lines : List ℕ) → Annotates form ws lines → checkObeying form rule lines ≡ passed tt → Obeys t bare (notesOf (linesOf form lines))
   unfolding checkObeying question8 question9 question11
-  obeying-says lines a e =
+  obeying-says ordered lines a e =
       let ls = linesOf form lines in
       let (q₈, e₁) = both-passed _ _ tt e in
       let (q₉, q₁₁) = both-passed _ _ tt e₁ in
       subst (λ c. Obeys t c (notesOf ls)) (a .same)
-      (obeys-from t ls form (slim-lines form lines) (ask-out 8 _ _ q₈) (once-out 9 _ q₉) (ask-out 11 _ _ q₁₁))
+      (obeys-from t ls form ordered (slim-lines form lines) (ask-out 8 _ _ q₈) (once-out 9 _ q₉) (ask-out 11 _ _ q₁₁))
 
   -- an accepted one obeys them, and question 10
   accepted-obeys : (lines : List ℕ) → Accepted form rule lines
@@ -170,7 +170,7 @@ module _ (form : Form) (g : GoodForm form) (rule ws : List ℕ) where
     storable l h = record {
       small = small-found l (omega (arith, length-found));
       narrow = λ f k d.
-          let i = belongs-in t f k (obeys-found .belong l (omega (arith, length-codes found)) f k d) in
+          let i = belongs-in t (r .ordered) f k (obeys-found .belong l (omega (arith, length-codes found)) f k d) in
           let j : length t ≤ form .width = r .few in
           omega arith;
     }
@@ -245,7 +245,7 @@ module _ (form : Form) (g : GoodForm form) (rule ws : List ℕ) where
         let count : length (linesOf form lines) ≡ length ws = sym (length-codes (linesOf form lines)) ∙ ap length (a .same) ∙ length-bare ws in
         rw found-read (elim (le-or-lt (length ws) l) [
           | inl h ↦ nothing-past (linesOf form lines) l (omega arith) _
-          | inr h ↦ found-largest .largest .holds-all (notesOf (linesOf form lines)) (obeying-says lines a e) l (omega (arith, length-bare ws))
+          | inr h ↦ found-largest .largest .holds-all (notesOf (linesOf form lines)) (obeying-says (r .ordered) lines a e) l (omega (arith, length-bare ws))
         ])
 
     pub largest-obeying : Largest form (checkObeying form rule) ws (foundWords form rule ws)
@@ -266,7 +266,7 @@ module _ (form : Form) (g : GoodForm form) (rule ws : List ℕ) where
     found-known lines a e l h =
         subst (λ i. presentKnown t (record { instruction = i; annotation = notesOf found l }) ≡ true) (code-at ws l ∙ sym (instruction-found l))
         (welcome t (r .ordered) bare (notesOf found) (notesOf (linesOf form lines)) (found-largest .largest)
-        (obeying-says lines a (accepted-obeys lines e .0)) (accepted-known lines a e) l (omega (arith, length-bare ws)))
+        (obeying-says (r .ordered) lines a (accepted-obeys lines e .0)) (accepted-known lines a e) l (omega (arith, length-bare ws)))
 
     largest-accepted : Accepted form rule (foundWords form rule ws) → Largest form (checkScript form rule) ws (foundWords form rule ws)
     largest-accepted e = record {

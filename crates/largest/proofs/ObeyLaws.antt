@@ -24,6 +24,7 @@ use Rattle.spec.specs.Facts.{Fact, belongs, Facts, _⊑_, among, firstFacts}
 use Rattle.spec.specs.Check.{Line, Lines, lineAt, codeOf, nodesIn, factsRead, lineRead, linesRead, linesOf, factsBelong, passedOn, targetFollows, factsFollow}
 use Rattle.largest.specs.Notes.{notesOf, followerOf, Obeys}
 use Rattle.spec.proofs.BoolLaws.{clash, and-both, both-and, either-not, le-or-lt}
+use Rattle.spec.proofs.RuleLaws.{InOrder}
 use Rattle.spec.proofs.FactLaws.{among-out, belongs-in}
 use Rattle.spec.proofs.StoredLaws.{Small, word-fields}
 use Rattle.spec.proofs.PlaceLaws.{past-end, instruction-at}
@@ -32,8 +33,8 @@ use Rattle.largest.proofs.LargestFound.{none-some, some-same}
 
 -- ---- questions 8, 9 and 11
 
-among-all-out : (t : Table) (F G : Facts) → F ⊑ belongs t → among t F G ≡ true → F ⊑ G
-among-all-out t F G b e f k d = among-out (length t) F G e f k (belongs-in t f k (b f k d)) d
+among-all-out : (t : Table) → InOrder t → (F G : Facts) → F ⊑ belongs t → among t F G ≡ true → F ⊑ G
+among-all-out t ordered F G b e f k d = among-out (length t) F G e f k (belongs-in t ordered f k (b f k d)) d
 
 pub nothing-past : (ls : Lines) (l : ℕ) → length ls ≤ l → (G : Facts) → notesOf ls l ⊑ G
 nothing-past ls l h G f k e = clash e (ap (λ x. x .annotation f k) (past-end ls l h))
@@ -71,30 +72,30 @@ module _ (t : Table) (ls : Lines) where
       (targetFollows t ls (record { instruction = i; annotation = notesOf ls l }) (targetOf i)
       && (not (goesOn i) || among t (notesOf ls (suc l)) (on l i false))) ≡ true
 
-  passes-at : (l : ℕ) (i : Instruction) (m : ℕ) (taken : Bool) → notesOf ls m ⊑ belongs t → eleven l i → followerOf l i taken ≡ some m
+  passes-at : InOrder t → (l : ℕ) (i : Instruction) (m : ℕ) (taken : Bool) → notesOf ls m ⊑ belongs t → eleven l i → followerOf l i taken ≡ some m
       → notesOf ls m ⊑ on l i taken
-  passes-at l i m true b e w =
+  passes-at ordered l i m true b e w =
       let x : Line = record { instruction = i; annotation = notesOf ls l } in
       let d = and-both (targetFollows t ls x (targetOf i)) _ e .0 in
-      among-all-out t (notesOf ls m) (on l i true) b (subst (λ o. targetFollows t ls x o ≡ true) w d)
-  passes-at l i m false b e w =
+      among-all-out t ordered (notesOf ls m) (on l i true) b (subst (λ o. targetFollows t ls x o ≡ true) w d)
+  passes-at ordered l i m false b e w =
       go (goesOn i) w (and-both (targetFollows t ls (record { instruction = i; annotation = notesOf ls l }) (targetOf i)) _ e .1)
     where
       go : (g : Bool) → cond g (some (suc l)) none ≡ some m → (not g || among t (notesOf ls (suc l)) (on l i false)) ≡ true
           → notesOf ls m ⊑ on l i false
       go true v d =
           let z : suc l ≡ m = some-same v in
-          among-all-out t (notesOf ls m) (on l i false) b (subst (λ j. among t (notesOf ls j) (on l i false) ≡ true) z d)
+          among-all-out t ordered (notesOf ls m) (on l i false) b (subst (λ j. among t (notesOf ls j) (on l i false) ≡ true) z d)
       go false v d = absurd (none-some v)
 
-  pub obeys-from : (form : Form) → Slim (form .width) ls → ((l : ℕ) → l < length ls → factsBelong form t (lineAt ls l) ≡ true)
+  pub obeys-from : (form : Form) → InOrder t → Slim (form .width) ls → ((l : ℕ) → l < length ls → factsBelong form t (lineAt ls l) ≡ true)
       → among t (notesOf ls 0) (firstFacts t) ≡ true → ((l : ℕ) → l < length ls → factsFollow t ls l ≡ true) → Obeys t code (notesOf ls)
   unfolding factsBelong factsFollow
-  obeys-from form slim q₈ q₉ q₁₁ = record {
+  obeys-from form ordered slim q₈ q₉ q₁₁ = record {
     belong = own;
-    first = λ h. among-all-out t (notesOf ls 0) (firstFacts t) (own 0 h) q₉;
+    first = λ h. among-all-out t ordered (notesOf ls 0) (firstFacts t) (own 0 h) q₉;
     passes = λ l m taken h h′ w. subst (λ i. followerOf l i taken ≡ some m → notesOf ls m ⊑ on l i taken) (sym (same-line ls l))
-        (passes-at l (lineAt ls l .instruction) m taken (own m h′) (q₁₁ l (omega (arith, length-codes ls)))) w;
+        (passes-at ordered l (lineAt ls l .instruction) m taken (own m h′) (q₁₁ l (omega (arith, length-codes ls)))) w;
   }
     where
       own : (l : ℕ) → l < length code → notesOf ls l ⊑ belongs t
