@@ -110,7 +110,7 @@ module _ (rule ws notes : List ℕ) (asked : Asked rule ws) (a : LargestAt rule 
       let r = ready form32 rule ws asked in
       let few : length (tableIn rule) ≤ 32 = r .few in
       count-narrow 32 64 (length ws) (notesAt notes) (omega arith)
-      (λ l h f k e. let i = belongs-in (tableIn rule) f k (a .obeys .belong l (omega (arith, length-bare ws)) f k e) in omega arith)
+      (λ l h f k e. let i = belongs-in (tableIn rule) (r .ordered) f k (a .obeys .belong l (omega (arith, length-bare ws)) f k e) in omega arith)
       ∙ count-as 32 (length ws) (notesAt notes) (notesOf (foundLines form32 rule ws)) (λ l h f k.
       ap (λ x. x .annotation f k) (sym (found-line l h)))
 

@@ -1,30 +1,32 @@
 -- How many lines deciding a node takes, from a table of the sizes for lower nodes, and how many a block has.
---     SizedTo, size-at, sized-next       a table of sizes as it is filled: the next node's size, from those kept for lower nodes
+--     SizedTo, own-at, size-at, sized-next   a table of sizes as it is filled: the next node's size, from those kept for lower nodes
 --     decide-few                         deciding a node takes no more lines than a block has: it is part of one
---     linesTo, lines-none, lines-next    a block's lines, counted node by node,
---     lines-all, lines-few               are those of the document's formula, and at most 8 a node
---     nodes-few, block-lines-are, block-few, node-few     an accepted rule has at most 32 nodes, so a block and a decision at most 257 lines
+--     countedTo, counted-none, counted-next, counted-all     a block's lines, node by node
+--     nodes-few, block-few, node-few, own-few     an accepted rule has at most 32 nodes, so a block and a decision at most 481 lines
+--     since-lines, weak-lines, shared-lines, no-lines        what a node accounts for, by the kind of its word
 -- Assumes nothing.
 use mathlib.Core.Path.{_≡_, refl, sym, ap, ap₂, _∙_}
 use mathlib.Core.Logic.{_⊎_, inl, inr}
-use mathlib.Core.Bool.{Bool, true, false, cond}
+use mathlib.Core.Bool.{Bool, true, false, cond, _||_}
 use mathlib.Core.List.{List, [], _∷_}
-use Prim.Native.Nat.{ℕ, zero, suc, _+_, _*_, _≤_, _<_}
+use Prim.Native.Nat.{ℕ, zero, suc, _+_, _-_, _*_, _≤_, _<_}
+use native.Mathlib.Nat.{le-refl}
 use native.Mathlib.Omega.{arith}
 use native.Mathlib.Numerals.{add-one}
 use lib.ListN.{length, getD, set}
 use lib.Seq.{getD-set-same, getD-set-other}
 use lib.Dec.{eqb, ltb}
-use borrow.Author.Tests.{ltb-true, eqb-true}
-use Rattle.spec.specs.Questions.{all, count, passed}
-use Rattle.spec.specs.Rule.{form32, nodeFields, Node, falseNode, testNode, impliesNode, sinceNode, weakPreviousNode, nodeOf, Table, nodeAt, lastNode, isFalse, isSince, isWeakPrevious, operands, mentions, checkRule}
-use Rattle.spec.specs.Weaver.{sizeFrom, decideSize, updateSize, updatesSize, blockSize, isTestNode, blockLines}
-use Rattle.spec.proofs.BoolLaws.{and-both, le-or-lt}
-use Rattle.spec.proofs.RuleLaws.{InOrder, both-lower, length-table, rule-out}
-use Rattle.spec.proofs.WeaverLaws.{decideSize-is}
-use Rattle.spec.proofs.SumLaws.{sum, sum-first, mentions-sum, block-size-is}
-use Rattle.rule.proofs.NodeLaws.{node-at}
-use Rattle.layout.specs.Layout.{tableIn, nodeLines}
+use borrow.Author.Tests.{ltb-true, eqb-true, ne-eqb}
+use Rattle.spec.specs.Questions.{all, count, sum, passed}
+use Rattle.spec.specs.Rule.{form32, nodeFields, Node, falseNode, testNode, impliesNode, sinceNode, weakPreviousNode, nodeOf, Table, nodeAt, lastNode, isFalse, isSince, isWeakPrevious, isPast, operands, mentions, isShared, checkRule}
+use Rattle.spec.specs.Weaver.{sizeFrom, decideSize, updateSize, sharedSize, workSize, updatesSize, blockSize, isTestNode, sharingLines, blockLines}
+use Rattle.spec.proofs.BoolLaws.{and-both, decided, le-or-lt}
+use Rattle.spec.proofs.RuleLaws.{InOrder, both-lower, one-lower, length-table, rule-out}
+use Rattle.spec.proofs.MentionLaws.{sum-same, overOperands, mentions-sum, operands-sum, shared-not-past, past-unshared}
+use Rattle.spec.proofs.WeaverLaws.{pastsBelow, pasts-count, size-is, size-own, no-update}
+use Rattle.spec.proofs.SumLaws.{block-size-is}
+use Rattle.rule.proofs.NodeLaws.{node-at, kind-4, kind-5, since-kind, weak-kind, past-either}
+use Rattle.layout.specs.Layout.{tableIn, Shared, Sized}
 
 -- ---- a node's size from a table
 
@@ -40,12 +42,19 @@ from-lower t sizes k i (impliesNode l r) s o = let (a, b) = both-lower k l r o i
 from-lower t sizes k i (sinceNode l r) s o = refl
 from-lower t sizes k i (weakPreviousNode l) s o = refl
 
-pub size-at : (rule sizes : List ℕ) (k : ℕ) → checkRule form32 rule ≡ passed tt → SizedTo (tableIn rule) sizes k
-    → sizeFrom (λ j. getD sizes j 0) (nodeOf (nodeFields (getD rule k 0))) 0 ≡ decideSize (tableIn rule) k
-size-at rule sizes k e s =
-    let ordered = rule-out form32 rule e .ordered in
+-- by what it is
+pub own-at : (rule sizes : List ℕ) (k : ℕ) → checkRule form32 rule ≡ passed tt → SizedTo (tableIn rule) sizes k
+    → sizeFrom (λ j. getD sizes j 0) (nodeOf (nodeFields (getD rule k 0))) 0 ≡ sizeFrom (decideSize (tableIn rule)) (nodeAt (tableIn rule) k) k
+own-at rule sizes k e s =
     ap (λ x. sizeFrom (λ j. getD sizes j 0) x 0) (sym (node-at rule k))
-    ∙ from-lower (tableIn rule) sizes k 0 (nodeAt (tableIn rule) k) s (ordered .lower k) ∙ sym (decideSize-is (tableIn rule) ordered k)
+    ∙ from-lower (tableIn rule) sizes k 0 (nodeAt (tableIn rule) k) s (rule-out form32 rule e .ordered .lower k)
+
+-- `shared` has the shared nodes
+pub size-at : (rule sizes : List ℕ) (k : ℕ) (shared : ℕ → Bool) → checkRule form32 rule ≡ passed tt → SizedTo (tableIn rule) sizes k
+    → shared ≡ isShared (tableIn rule)
+    → cond (shared k) 2 (sizeFrom (λ j. getD sizes j 0) (nodeOf (nodeFields (getD rule k 0))) 0) ≡ decideSize (tableIn rule) k
+size-at rule sizes k shared e s d =
+    ap₂ (λ b n. cond b 2 n) (ap (λ f. f k) d) (own-at rule sizes k e s) ∙ sym (size-is (tableIn rule) (rule-out form32 rule e .ordered) k)
 
 pub sized-next : (t : Table) (sizes : List ℕ) (k v : ℕ) → k < length sizes → v ≡ decideSize t k → SizedTo t sizes k
     → SizedTo t (set sizes k v) (k + 1)
@@ -113,28 +122,42 @@ module _ (t : Table) where
         | inr d ↦ absurd (omega arith)
       ]
 
-  update-within : (n i : ℕ) → i < n → updateSize t (nodeAt t i) ≤ updatesSize n t
+  work-within : (n i : ℕ) → i < n → workSize t i ≤ updatesSize n t
   unfolding updatesSize
-  update-within zero i h = absurd (omega arith)
-  update-within (suc n) i h =
+  work-within zero i h = absurd (omega arith)
+  work-within (suc n) i h =
       elim (le-or-lt n i) [
         | inl a ↦ let z : i ≡ n = omega arith in rw z (omega arith)
-        | inr a ↦ let b = update-within n i a in omega arith
+        | inr a ↦ let b = work-within n i a in omega arith
       ]
 
-module _ (t : Table) (ordered : InOrder t) (once : (k : ℕ) → k < lastNode t → mentions t k ≡ 1) where
+  update-within : (i : ℕ) → updateSize t (nodeAt t i) ≤ workSize t i
+  unfolding workSize
+  update-within i = elim (decided (isShared t i)) [
+    | inl s ↦ omega (arith, no-update t (nodeAt t i) (shared-not-past t i s))
+    | inr s ↦ rw s (le-refl (updateSize t (nodeAt t i)))
+  ]
+
+  own-within : (i : ℕ) → isShared t i ≡ true → sizeFrom (decideSize t) (nodeAt t i) i ≤ workSize t i
+  unfolding workSize sharedSize
+  own-within i s = rw s (omega arith)
+
+module _ (t : Table) (ordered : InOrder t) (mentioned : (k : ℕ) → k < lastNode t → 1 ≤ mentions t k) where
   within : (n k : ℕ) → k < length t → length t ≤ k + n → decideSize t k ≤ blockSize t
   unfolding blockSize
   within zero k h l = absurd (omega arith)
   within (suc n) k h l =
       elim (le-or-lt (lastNode t) k) [
         | inl a ↦ let z : k ≡ lastNode t = omega arith in rw z (omega arith)
-        | inr a ↦ let m : 0 < sum (length t) (λ i. count (λ j. eqb j k) (operands (nodeAt t i))) = omega (arith, once k a, mentions-sum t k) in
+        | inr a ↦ let m : 0 < sum (length t) (λ i. count (λ j. eqb j k) (operands (nodeAt t i))) = omega (arith, mentioned k a, mentions-sum t k) in
             let (i, inside, p) = some-term (length t) (λ i. count (λ j. eqb j k) (operands (nodeAt t i))) m in
             let lower : k < i = lower-of (operands (nodeAt t i)) i k (ordered .lower i) p in
             elim (part-of t k i (nodeAt t i) p) [
-              | inl b ↦ let more = within n i inside (omega arith) in omega (arith, decideSize-is t ordered i)
-              | inr b ↦ omega (arith, update-within t (length t) i inside)
+              | inl b ↦ elim (decided (isShared t i)) [
+                | inl s ↦ omega (arith, own-within t i s, work-within t (length t) i inside)
+                | inr s ↦ let more = within n i inside (omega arith) in omega (arith, size-own t ordered i s)
+              ]
+              | inr b ↦ omega (arith, update-within t i, work-within t (length t) i inside)
             ]
       ]
 
@@ -143,44 +166,73 @@ module _ (t : Table) (ordered : InOrder t) (once : (k : ℕ) → k < lastNode t 
 
 -- ---- a block's lines, node by node
 
-unfoldable pub linesTo : Table → ℕ → ℕ
-linesTo t n = 1 + sum n (λ k. nodeLines (nodeAt t k))
+-- those of the nodes below n: their code, and the 12s
+unfoldable pub countedTo : Table → ℕ → ℕ
+countedTo t n = updatesSize n t + pastsBelow n t
 
-pub lines-none : (t : Table) → 1 ≡ linesTo t 0
-unfolding linesTo sum
-lines-none t = refl
+pub counted-none : (t : Table) → 0 ≡ countedTo t 0
+unfolding countedTo updatesSize pastsBelow
+counted-none t = refl
 
-pub lines-next : (rule : List ℕ) (k lines n : ℕ) → n ≡ nodeLines (nodeOf (nodeFields (getD rule k 0))) → lines ≡ linesTo (tableIn rule) k
-    → lines + n ≡ linesTo (tableIn rule) (k + 1)
-unfolding linesTo sum
-lines-next rule k lines n e d =
-    let x : n ≡ nodeLines (nodeAt (tableIn rule) k) = e ∙ ap nodeLines (sym (node-at rule k)) in
-    rw (add-one k) (omega arith)
+pub counted-next : (t : Table) (k lines n : ℕ) → n ≡ workSize t k + cond (isPast (nodeAt t k)) 1 0 → lines ≡ countedTo t k
+    → lines + n ≡ countedTo t (k + 1)
+unfolding countedTo updatesSize pastsBelow
+counted-next t k lines n e d = rw (add-one k) (omega arith)
 
-node-kinds : (x : Node)
-    → nodeLines x ≡ 2 * cond (isTestNode x) 1 0 + cond (isFalse x) 1 0 + 8 * cond (isSince x) 1 0 + 6 * cond (isWeakPrevious x) 1 0
-node-kinds falseNode = refl
-node-kinds (testNode a) = refl
-node-kinds (impliesNode l r) = refl
-node-kinds (sinceNode l r) = refl
-node-kinds (weakPreviousNode l) = refl
+pub counted-all : (t : Table) → countedTo t (length t) + decideSize t (lastNode t) + 1 ≡ blockSize t
+unfolding countedTo blockSize
+counted-all t = omega (arith, pasts-count t)
 
-pub lines-all : (t : Table) → linesTo t (length t) ≡ blockLines t
-unfolding linesTo sum blockLines
-lines-all [] = refl
-lines-all (x ∷ t) = ap (λ (n : ℕ). 1 + n) (sum-first (length t) (λ k. nodeLines (nodeAt (x ∷ t) k))) ∙ omega (arith, node-kinds x, lines-all t)
+counted-within : (t : Table) (d n : ℕ) → n + d ≡ length t → countedTo t n ≤ blockSize t
+unfolding countedTo updatesSize pastsBelow
+counted-within t zero n e = let z : n ≡ length t = omega arith in rw z (omega (arith, counted-all t))
+counted-within t (suc d) n e = omega (arith, counted-within t d (suc n) (omega arith))
 
-few-each : (x : Node) → nodeLines x ≤ 8
-few-each falseNode = omega arith
-few-each (testNode a) = omega arith
-few-each (impliesNode l r) = omega arith
-few-each (sinceNode l r) = omega arith
-few-each (weakPreviousNode l) = omega arith
+-- ---- a block's lines, by the formula, are not too many
 
-pub lines-few : (t : Table) (n : ℕ) → linesTo t n ≤ 1 + 8 * n
-unfolding linesTo sum
-lines-few t zero = omega arith
-lines-few t (suc n) = omega (arith, lines-few t n, few-each (nodeAt t n))
+kinds-few : (t : Table) → 2 * count isTestNode t + count isFalse t + 8 * count isSince t + 6 * count isWeakPrevious t ≤ 8 * length t
+kinds-few [] = omega arith
+kinds-few (falseNode ∷ t) = omega (arith, kinds-few t)
+kinds-few (testNode a ∷ t) = omega (arith, kinds-few t)
+kinds-few (impliesNode l r ∷ t) = omega (arith, kinds-few t)
+kinds-few (sinceNode l r ∷ t) = omega (arith, kinds-few t)
+kinds-few (weakPreviousNode l ∷ t) = omega (arith, kinds-few t)
+
+sharing-few : (t : Table) (k : ℕ) → sharingLines t k ≤ 3 + 2 * mentions t k
+unfolding sharingLines
+sharing-few t k = go (isShared t k) (isPast (nodeAt t k))
+  where
+    go : (s p : Bool) → cond s (3 + 2 * mentions t k) (cond p (2 * (mentions t k - 1)) 0) ≤ 3 + 2 * mentions t k
+    go true p = omega arith
+    go false true = omega arith
+    go false false = omega arith
+
+sharing-to : (t : Table) (n : ℕ) → sum n (λ k. sharingLines t k) ≤ 3 * n + 2 * sum n (λ k. mentions t k)
+unfolding sum
+sharing-to t zero = omega arith
+sharing-to t (suc n) = omega (arith, sharing-to t n, sharing-few t n)
+
+two-each : (x : Node) → overOperands (λ j. 1) (operands x) ≤ 2
+unfolding overOperands
+two-each falseNode = omega arith
+two-each (testNode a) = omega arith
+two-each (impliesNode l r) = omega arith
+two-each (sinceNode l r) = omega arith
+two-each (weakPreviousNode l) = omega arith
+
+operands-few : (t : Table) (n : ℕ) → sum n (λ i. overOperands (λ j. 1) (operands (nodeAt t i))) ≤ 2 * n
+unfolding sum
+operands-few t zero = omega arith
+operands-few t (suc n) = omega (arith, operands-few t n, two-each (nodeAt t n))
+
+-- two operands a node, so two mentions a node in all
+lines-few : (t : Table) → InOrder t → blockLines t ≤ 1 + 15 * length t
+unfolding blockLines
+lines-few t ordered =
+    let n = length t in
+    let ones : sum n (λ k. mentions t k) ≡ sum n (λ k. mentions t k * 1) =
+    sum-same n (λ k. mentions t k) (λ k. mentions t k * 1) (λ k l. omega arith) in
+    omega (arith, kinds-few t, sharing-to t n, operands-few t n, operands-sum t ordered (λ j. 1))
 
 -- ---- an accepted rule
 
@@ -189,16 +241,95 @@ module _ (rule : List ℕ) (accepted : checkRule form32 rule ≡ passed tt) wher
   unfolding form32
   nodes-few = rule-out form32 rule accepted .few-nodes
 
-  pub block-lines-are : linesTo (tableIn rule) (length rule) ≡ blockSize (tableIn rule)
-  block-lines-are =
-      ap (linesTo (tableIn rule)) (sym (length-table form32 rule)) ∙ lines-all (tableIn rule) ∙ sym (block-size-is form32 rule accepted)
+  pub block-few : blockSize (tableIn rule) ≤ 481
+  block-few = omega (
+    arith,
+    nodes-few,
+    length-table form32 rule,
+    block-size-is form32 rule accepted,
+    lines-few (tableIn rule) (rule-out form32 rule accepted .ordered),
+  )
 
-  pub block-few : blockSize (tableIn rule) ≤ 257
-  block-few = omega (arith, nodes-few, block-lines-are, lines-few (tableIn rule) (length rule))
+  pub counted-few : (n : ℕ) → n ≤ length rule → countedTo (tableIn rule) n ≤ 481
+  counted-few n h =
+      let same = length-table form32 rule in
+      omega (arith, block-few, counted-within (tableIn rule) (length rule - n) n (omega arith))
 
-  pub node-few : (k : ℕ) → k < length rule → decideSize (tableIn rule) k ≤ 257
+  pub node-few : (k : ℕ) → k < length rule → decideSize (tableIn rule) k ≤ 481
   node-few k h =
       let r = rule-out form32 rule accepted in
       let inside : k < length (tableIn rule) = omega (arith, length-table form32 rule) in
-      let few = decide-few (tableIn rule) (r .ordered) (λ j l. eqb-true _ _ (r .once-mentioned j l)) k inside in
+      let few = decide-few (tableIn rule) (r .ordered) (r .mentioned) k inside in
       omega (arith, block-few)
+
+  pub own-few : (k : ℕ) → k < length rule → sizeFrom (decideSize (tableIn rule)) (nodeAt (tableIn rule) k) k ≤ 962
+  own-few k h = go (nodeAt (tableIn rule) k) (rule-out form32 rule accepted .ordered .lower k)
+    where
+      go : (x : Node) → all (λ j. ltb j k) (operands x) ≡ true → sizeFrom (decideSize (tableIn rule)) x k ≤ 962
+      go falseNode o = omega arith
+      go (testNode a) o = omega arith
+      go (impliesNode l r) o = let (a, b) = both-lower k l r o in omega (arith, node-few l (omega arith), node-few r (omega arith))
+      go (sinceNode l r) o = omega arith
+      go (weakPreviousNode l) o = omega arith
+
+-- ---- what a node accounts for
+
+module _ (rule sizes : List ℕ) (k : ℕ) (sized : Sized rule sizes) (inside : k < length rule) where
+  abbrev table : Table
+  table = tableIn rule
+
+  -- the lines of a block that node k accounts for
+  abbrev pub accounted : ℕ
+  accounted = workSize table k + cond (isPast (nodeAt table k)) 1 0
+
+  past-lines : (x : Node) → nodeAt table k ≡ x → isPast x ≡ true → accounted ≡ updateSize table x + 1
+  unfolding workSize
+  past-lines x e p = let past : isPast (nodeAt table k) ≡ true = ap isPast e ∙ p in rw (past-unshared table k past, past, e)
+
+  lower-size : (j : ℕ) → j < k → getD sizes j 0 ≡ decideSize table j
+  lower-size j l = sized .1 j (omega arith)
+
+  -- a since node: its operands' sizes, and the lines
+  pub since-lines : nodeFields (getD rule k 0) .kind ≡ 4
+      → (getD sizes (nodeFields (getD rule k 0) .right) 0 ≤ 481) × (getD sizes (nodeFields (getD rule k 0) .left) 0 ≤ 481)
+      × (getD sizes (nodeFields (getD rule k 0) .right) 0 + getD sizes (nodeFields (getD rule k 0) .left) 0 + 6 ≡ accounted)
+  unfolding updateSize
+  since-lines h =
+      let f = nodeFields (getD rule k 0) in
+      let e : nodeAt table k ≡ sinceNode (f .left) (f .right) = node-at rule k ∙ kind-4 f h in
+      let (a, b) = both-lower k (f .left) (f .right) (rw e at (rule-out form32 rule (sized .0) .ordered .lower k)) in
+      let l = lower-size (f .left) a in
+      let r = lower-size (f .right) b in (
+        omega (arith, node-few rule (sized .0) (f .right) (omega arith)),
+        omega (arith, node-few rule (sized .0) (f .left) (omega arith)),
+        omega (arith, past-lines (sinceNode (f .left) (f .right)) e refl),
+      )
+
+  -- a weak previous node, likewise
+  pub weak-lines : nodeFields (getD rule k 0) .kind ≡ 5
+      → (getD sizes (nodeFields (getD rule k 0) .left) 0 ≤ 481) × (getD sizes (nodeFields (getD rule k 0) .left) 0 + 4 ≡ accounted)
+  unfolding updateSize
+  weak-lines h =
+      let f = nodeFields (getD rule k 0) in
+      let e : nodeAt table k ≡ weakPreviousNode (f .left) = node-at rule k ∙ kind-5 f h in
+      let a = one-lower k (f .left) (rw e at (rule-out form32 rule (sized .0) .ordered .lower k)) in
+      let l = lower-size (f .left) a in
+      (omega (arith, node-few rule (sized .0) (f .left) (omega arith)), omega (arith, past-lines (weakPreviousNode (f .left)) e refl))
+
+  pub own-small : sizeFrom (λ j. getD sizes j 0) (nodeOf (nodeFields (getD rule k 0))) 0 < 65536
+  own-small = omega (arith, own-at rule sizes k (sized .0) lower-size, own-few rule (sized .0) k inside)
+
+  module _ (not-since : nodeFields (getD rule k 0) .kind ≡ 4 → ⊥) (not-weak : nodeFields (getD rule k 0) .kind ≡ 5 → ⊥) where
+    not-past : isPast (nodeAt table k) ≡ false
+    not-past =
+        let f = nodeFields (getD rule k 0) in
+        ap isPast (node-at rule k) ∙ past-either (nodeOf f)
+        ∙ ap₂ _||_ (since-kind f ∙ ne-eqb (f .kind) 4 not-since) (weak-kind f ∙ ne-eqb (f .kind) 5 not-weak)
+
+    pub shared-lines : isShared table k ≡ true → (n : ℕ) → n ≡ sizeFrom (λ j. getD sizes j 0) (nodeOf (nodeFields (getD rule k 0))) 0 → n + 3 ≡ accounted
+    unfolding workSize sharedSize
+    shared-lines s n e = rw (s, not-past) (omega (arith, own-at rule sizes k (sized .0) lower-size))
+
+    pub no-lines : isShared table k ≡ false → 0 ≡ accounted
+    unfolding workSize
+    no-lines s = rw (s, not-past) (omega (arith, no-update table (nodeAt table k) not-past))

@@ -4,23 +4,20 @@ use mathlib.Core.List.{List}
 use Prim.Native.Nat.{ℕ, _*_, _<_}
 use lib.ListN.{length, getD}
 use Rattle.spec.specs.Questions.{passed}
-use Rattle.spec.specs.Rule.{form32, Node, falseNode, testNode, impliesNode, sinceNode, weakPreviousNode, checkRule}
+use Rattle.spec.specs.Rule.{form32, isShared, checkRule}
 use Rattle.spec.specs.Script.{bareCode}
 use Rattle.spec.specs.Weaver.{decideSize, blockSize, startOf, checkWeaving}
+use Rattle.sets.specs.Sets.{setOf}
 pub use Rattle.rule.specs.Nodes.{tableIn}
 
--- the rule is accepted, and `sizes` has how many lines deciding each node takes
+-- `shared` has the rule's shared nodes
+abbrev pub Shared : (rule : List ℕ) (shared : ℕ) → Type 0
+Shared rule shared = setOf shared ≡ isShared (tableIn rule)
+
+-- the rule is accepted, and `sizes` has how many lines deciding a mention of each node takes
 abbrev pub Sized : (rule sizes : List ℕ) → Type 0
 Sized rule sizes =
     (checkRule form32 rule ≡ passed tt) × ((k : ℕ) → k < length rule → getD sizes k 0 ≡ decideSize (tableIn rule) k)
-
--- how many lines of a block a node accounts for
-abbrev pub nodeLines : Node → ℕ
-nodeLines falseNode = 1
-nodeLines (testNode a) = 2
-nodeLines (impliesNode left right) = 0
-nodeLines (sinceNode left right) = 8
-nodeLines (weakPreviousNode left) = 6
 
 -- the starts of how many lines apart are kept: between two of them lines are counted
 abbrev pub interval : ℕ

@@ -1,18 +1,20 @@
 // Where woven lines go: how many lines a node's decision and a block take, and where each bare line starts.
 use script::line::has_target;
 use script::line::is_present;
+use sets::has;
 ghost use mathlib.Core.Path.{_≡_};
 ghost use mathlib.Core.Bool.{cond};
-ghost use Prim.Native.Nat.{_*_, _≤_, _<_};
+ghost use Prim.Native.Nat.{_+_, _*_, _≤_, _<_};
 ghost use lib.ListN.{length, getD};
 ghost use Rattle.spec.specs.Questions.{passed};
-ghost use Rattle.spec.specs.Rule.{form32, Table, nodeFields, nodeOf, checkRule};
+ghost use Rattle.spec.specs.Rule.{form32, Table, nodeFields, nodeOf, nodeAt, isPast, checkRule};
 ghost use Rattle.spec.specs.Script.{instructionRead, isPresent, wordFor, bareCode, mostLines};
-ghost use Rattle.spec.specs.Weaver.{sizeFrom, blockSize, startOf, wovenCount, retarget, checkWeaving};
-ghost use Rattle.layout.specs.Layout.{tableIn, Sized, nodeLines, Started};
+ghost use Rattle.spec.specs.Weaver.{sizeFrom, workSize, blockSize, startOf, wovenCount, retarget, checkWeaving};
+ghost use Rattle.sets.specs.Sets.{setOf};
+ghost use Rattle.layout.specs.Layout.{tableIn, Shared, Sized, Started};
 
-// How many lines deciding the node with this word takes, from the sizes for lower nodes.
-fn node_size(sizes: &[u16], word: u32) -> u16
+// How many lines deciding the node with this word takes, by what it is, from the sizes for lower nodes.
+pub fn node_size(sizes: &[u16], word: u32) -> u16
     requires { ⌜ (32 ≤ length (now sizes)) × (sizeFrom (λ j. getD (now sizes) j 0) (nodeOf (nodeFields word)) 0 < 65536) ⌝ }
     ensures { λ r. ⌜ r ≡ sizeFrom (λ j. getD (now (sizes .entry)) j 0) (nodeOf (nodeFields word)) 0 ⌝ }
 {
@@ -28,53 +30,71 @@ fn node_size(sizes: &[u16], word: u32) -> u16
     }
 }
 
-fn fill_sizes(rule: &[u32], sizes: &mut [u16])
-    requires { ⌜ (checkRule form32 (now rule) ≡ passed tt) × (32 ≤ length (now sizes)) ⌝ }
+// How many a mention of it takes, where it is node k and `shared` has the shared nodes: of one of those, 11 and a go.
+fn mention_size(sizes: &[u16], shared: u64, k: usize, word: u32) -> u16
+    requires { ⌜ (32 ≤ length (now sizes)) × (sizeFrom (λ j. getD (now sizes) j 0) (nodeOf (nodeFields word)) 0 < 65536) ⌝ }
+    ensures { λ r. ⌜ r ≡ cond (setOf shared k) 2 (sizeFrom (λ j. getD (now (sizes .entry)) j 0) (nodeOf (nodeFields word)) 0) ⌝ }
+{
+    if has(shared, k) {
+        2
+    } else {
+        node_size(sizes, word)
+    }
+}
+
+fn fill_sizes(rule: &[u32], shared: u64, sizes: &mut [u16])
+    requires { ⌜ (checkRule form32 (now rule) ≡ passed tt) × Shared (now rule) shared × (32 ≤ length (now sizes)) ⌝ }
     ensures { λ r. ⌜ Sized (now (rule .entry)) (now (sizes .exit)) ⌝ }
 {
     let mut k = 0;
     while k < rule.len() {
-        sizes[k] = node_size(sizes, rule[k]);
+        sizes[k] = mention_size(sizes, shared, k, rule[k]);
         k += 1;
     }
 }
 
-// How many lines deciding each node of an accepted rule takes.
-pub fn measure_nodes(rule: &[u32], sizes: &mut [u16; 64])
-    requires { ⌜ checkRule form32 (now rule) ≡ passed tt ⌝ }
+// How many lines deciding a mention of each node of an accepted rule takes.
+pub fn measure_nodes(rule: &[u32], shared: u64, sizes: &mut [u16; 64])
+    requires { ⌜ (checkRule form32 (now rule) ≡ passed tt) × Shared (now rule) shared ⌝ }
     ensures { λ r. ⌜ Sized (now (rule .entry)) (now (sizes .exit)) ⌝ }
 {
-    fill_sizes(rule, sizes);
+    fill_sizes(rule, shared, sizes);
 }
 
-// How many lines of a block the node with this word accounts for.
-fn node_lines(word: u32) -> usize
-    ensures { λ r. ⌜ r ≡ nodeLines (nodeOf (nodeFields word)) ⌝ }
+// How many lines of a block node k accounts for: its code and, if it is a past node, its 12.
+fn node_lines(rule: &[u32], sizes: &[u16; 64], shared: u64, k: usize) -> usize
+    requires { ⌜ Sized (now rule) (now sizes) × Shared (now rule) shared × (k < length (now rule)) ⌝ }
+    ensures { λ r. ⌜ r ≡ workSize (tableIn (now (rule .entry))) k + cond (isPast (nodeAt (tableIn (now (rule .entry))) k)) 1 0 ⌝ }
 {
+    let word = rule[k];
     let kind = word / 536870912 % 8;
     match kind {
-        1 => 2,
-        2 => 2,
-        3 => 0,
-        4 => 8,
-        5 => 6,
-        6 => 2,
-        _ => 1,
+        4 => sizes[(word / 2 % 32) as usize] as usize
+            + sizes[(word / 64 % 32) as usize] as usize
+            + 6,
+        5 => sizes[(word / 64 % 32) as usize] as usize + 4,
+        _ => {
+            if has(shared, k) {
+                node_size(sizes, word) as usize + 3
+            } else {
+                0
+            }
+        }
     }
 }
 
 // How many lines a block has.
-pub fn block_size(rule: &[u32]) -> usize
-    requires { ⌜ checkRule form32 (now rule) ≡ passed tt ⌝ }
+pub fn block_size(rule: &[u32], sizes: &[u16; 64], shared: u64) -> usize
+    requires { ⌜ Sized (now rule) (now sizes) × Shared (now rule) shared ⌝ }
     ensures { λ r. ⌜ r ≡ blockSize (tableIn (now (rule .entry))) ⌝ }
 {
-    let mut lines: usize = 1;
+    let mut lines: usize = 0;
     let mut k = 0;
     while k < rule.len() {
-        lines += node_lines(rule[k]);
+        lines += node_lines(rule, sizes, shared, k);
         k += 1;
     }
-    lines
+    lines + sizes[rule.len() - 1] as usize + 1
 }
 
 // How many lines a bare line with this word becomes; a block has `size` lines.

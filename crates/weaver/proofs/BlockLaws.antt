@@ -17,11 +17,11 @@ use Rattle.spec.specs.Rule.{form32, Table, nodeAt, lastNode, isPast}
 use Rattle.spec.specs.Script.{keep, present}
 use Rattle.spec.specs.Facts.{valueIs, Facts, _∪_, one}
 use Rattle.spec.specs.Check.{Lines}
-use Rattle.spec.specs.Weaver.{line, doneFacts, keepFacts, decideSize, decide, update, updateSize, updates, updatesSize, keeps, blockSize, block}
+use Rattle.spec.specs.Weaver.{line, doneFacts, keepFacts, decideSize, decide, updates, updatesSize, keeps, blockSize, block, workCode, workSize}
 use Rattle.spec.proofs.RuleLaws.{InOrder, length-table, rule-out}
-use Rattle.spec.proofs.WeaverLaws.{pasts-count, length-decide, length-update, length-updates, length-keeps}
+use Rattle.spec.proofs.WeaverLaws.{pasts-count, length-decide, length-updates, length-keeps, length-work}
 use Rattle.layout.specs.Layout.{tableIn}
-use Rattle.weaver.specs.Laid.{Deciding, Updating, Updatable, Guarding, Blocking}
+use Rattle.weaver.specs.Laid.{Deciding, Updatable, Guarding, Blocking, Working}
 use Rattle.output.specs.Written.{written}
 use Rattle.weaver.specs.Parts.{presentLines, guardLines}
 use Rattle.weaver.proofs.SeriesLaws.{Series, Filled, filled-room, filled-part}
@@ -32,14 +32,14 @@ pub updates-none : (t : Table) (place : ℕ) → updates 0 t place ≡ []
 unfolding updates
 updates-none t place = refl
 
-pub updates-more : (t : Table) (place k : ℕ) → updates k t place ++ update t (nodeAt t k) k (place + updatesSize k t) (doneFacts t k) ≡ updates (suc k) t place
+pub updates-more : (t : Table) (place k : ℕ) → updates k t place ++ workCode t k (place + updatesSize k t) (doneFacts t k) ≡ updates (suc k) t place
 unfolding updates
 updates-more t place k = refl
 
 abbrev pub updatingSeries : (t : Table) (place : ℕ) → Series
 updatingSeries t place = record {
   whole = λ k. updates k t place;
-  part = λ k. update t (nodeAt t k) k (place + updatesSize k t) (doneFacts t k);
+  part = λ k. workCode t k (place + updatesSize k t) (doneFacts t k);
   start = updates-none t place;
   next = updates-more t place;
 }
@@ -84,9 +84,9 @@ count-few (x ∷ t) = one-more (isPast x) (count isPast t) (length t) (count-few
 pub keeping-few : (rule : List ℕ) → length rule ≤ 64 → length (keeps (length rule) (tableIn rule)) ≤ 64
 keeping-few rule h = omega (arith, all-keeps rule, count-few (tableIn rule), length-table form32 rule)
 
--- ---- the past nodes' code
+-- ---- the code of the nodes with a work bit
 
-module _ (rule sizes : List ℕ) (place : ℕ) (out₀ : List ℕ) (u : Updatable rule sizes place out₀) where
+module _ (rule sizes : List ℕ) (shared : ℕ) (place : ℕ) (out₀ : List ℕ) (u : Updatable rule sizes shared place out₀) where
   order : InOrder (tableIn rule)
   order = rule-out form32 rule (u .sized .0) .ordered
 
@@ -98,33 +98,34 @@ module _ (rule sizes : List ℕ) (place : ℕ) (out₀ : List ℕ) (u : Updatabl
 
   module _ (out : List ℕ) (n k : ℕ) (i : Filled (updatingSeries (tableIn rule) place) out₀ out n k) (h : k < length rule) where
     abbrev code : ℕ → Facts → Lines
-    code p F = update (tableIn rule) (nodeAt (tableIn rule) k) k p F
+    code p F = workCode (tableIn rule) k p F
 
     pub line-count : n ≡ updatesSize k (tableIn rule)
     line-count = i .0 ∙ length-updates (tableIn rule) order k place
 
-    part-count : length (code (place + updatesSize k (tableIn rule)) (doneFacts (tableIn rule) k)) ≡ updateSize (tableIn rule) (nodeAt (tableIn rule) k)
-    part-count = length-update (tableIn rule) order (nodeAt (tableIn rule) k) k _ _
+    part-count : length (code (place + updatesSize k (tableIn rule)) (doneFacts (tableIn rule) k)) ≡ workSize (tableIn rule) k
+    part-count = length-work (tableIn rule) order k _ _
 
-    pub updating-few : (8 * n ≤ length out) × (place + n < 1024) × (n + updateSize (tableIn rule) (nodeAt (tableIn rule) k) < 1024) × (length out ≡ length out₀)
+    pub updating-few : (8 * n ≤ length out) × (place + n < 1024) × (n + workSize (tableIn rule) k < 1024) × (length out ≡ length out₀)
     updating-few =
         let r = filled-room (updatingSeries (tableIn rule) place) out₀ out n k (length rule) i (omega arith) updatable-room in
         let q = filled-part (updatingSeries (tableIn rule) place) out₀ out n k (length rule) i (omega arith) updatable-room h in
         let s = u .inScript in
         (omega arith, omega (arith, all-updates), omega (arith, all-updates, part-count), r .1)
 
-    pub updating-node : (p : List ℕ) → length p ≡ length out - 8 * n → Updating rule sizes k (place + n) p
+    pub updating-node : (p : List ℕ) → length p ≡ length out - 8 * n → Working rule sizes shared k (place + n) p
     updating-node p e =
         let q = filled-part (updatingSeries (tableIn rule) place) out₀ out n k (length rule) i (omega arith) updatable-room h in
         let s = u .inScript in
         record {
           sized = u .sized;
+          sharedIs = u .sharedIs;
           isNode = h;
           inScript = omega (arith, all-updates, part-count);
           inOutput = omega (arith, part-count, e);
         }
 
-    pub updating-size : (m : ℕ) → m ≡ updateSize (tableIn rule) (nodeAt (tableIn rule) k) → m ≡ length (code (place + updatesSize k (tableIn rule)) (doneFacts (tableIn rule) k))
+    pub updating-size : (m : ℕ) → m ≡ workSize (tableIn rule) k → m ≡ length (code (place + updatesSize k (tableIn rule)) (doneFacts (tableIn rule) k))
     updating-size m e = e ∙ sym part-count
 
     pub updating-code : (F : Facts) (o : List ℕ) → F ≡ doneFacts (tableIn rule) k
@@ -144,7 +145,7 @@ present-length t F = omega (arith, keeps-length t)
 
 -- ---- deciding the last node
 
-module _ (rule sizes : List ℕ) (place end : ℕ) (out : List ℕ) (g : Guarding rule sizes place end out) where
+module _ (rule sizes : List ℕ) (shared : ℕ) (place end : ℕ) (out : List ℕ) (g : Guarding rule sizes shared place end out) where
   abbrev last : ℕ
   last = length rule - 1
 
@@ -158,7 +159,7 @@ module _ (rule sizes : List ℕ) (place end : ℕ) (out : List ℕ) (g : Guardin
   pub guard-size : getD sizes last 0 ≡ decideSize (tableIn rule) (lastNode (tableIn rule))
   guard-size = let f = guard-few in g .sized .1 last (omega arith) ∙ ap (decideSize (tableIn rule)) (sym last-is)
 
-  pub guard-last : Deciding rule sizes last place (place + getD sizes last 0) end out
+  pub guard-last : Deciding rule sizes shared false last place (place + getD sizes last 0) end out
   guard-last =
       let f = guard-few in
       let s = g .inScript in
@@ -166,6 +167,7 @@ module _ (rule sizes : List ℕ) (place end : ℕ) (out : List ℕ) (g : Guardin
       let e : decideSize (tableIn rule) last ≡ decideSize (tableIn rule) (lastNode (tableIn rule)) = ap (decideSize (tableIn rule)) (sym last-is) in
       record {
         sized = g .sized;
+        sharedIs = g .sharedIs;
         isNode = omega arith;
         trueLine = omega (arith, guard-size);
         falseLine = g .endLine;
@@ -187,7 +189,7 @@ module _ (rule sizes : List ℕ) (place end : ℕ) (out : List ℕ) (g : Guardin
 
 -- ---- the block
 
-module _ (rule sizes : List ℕ) (place : ℕ) (out : List ℕ) (b : Blocking rule sizes place out) where
+module _ (rule sizes : List ℕ) (shared : ℕ) (place : ℕ) (out : List ℕ) (b : Blocking rule sizes shared place out) where
   abbrev t : Table
   t = tableIn rule
 
@@ -198,11 +200,11 @@ module _ (rule sizes : List ℕ) (place : ℕ) (out : List ℕ) (b : Blocking ru
   unfolding blockSize
   block-parts = ap (λ n. updatesSize n t + decideSize t (lastNode t) + 1 + count isPast t) (length-table form32 rule)
 
-  pub block-updatable : Updatable rule sizes place out
+  pub block-updatable : Updatable rule sizes shared place out
   block-updatable =
       let s = b .inScript in
       let o = b .inOutput in
-      record { sized = b .sized; inScript = omega (arith, block-parts); inOutput = omega (arith, block-parts) }
+      record { sized = b .sized; sharedIs = b .sharedIs; inScript = omega (arith, block-parts); inOutput = omega (arith, block-parts) }
 
   pub block-few : updatesSize (length rule) t < 1024
   block-few = let s = b .inScript in omega (arith, block-parts)
@@ -211,12 +213,13 @@ module _ (rule sizes : List ℕ) (place : ℕ) (out : List ℕ) (b : Blocking ru
   block-room = block-updatable .inOutput
 
   pub block-guarding : (n size : ℕ) (p : List ℕ) → n ≡ updatesSize (length rule) t → size ≡ blockSize t → length p ≡ length out - 8 * n
-      → Guarding rule sizes (place + n) (place + size) p
+      → Guarding rule sizes shared (place + n) (place + size) p
   block-guarding n size p en es e =
       let s = b .inScript in
       let o = b .inOutput in
       record {
         sized = b .sized;
+        sharedIs = b .sharedIs;
         endLine = omega arith;
         inScript = omega (arith, block-parts);
         inOutput = omega (arith, block-parts);

@@ -1,29 +1,38 @@
 -- Deciding a node by recursion into its operands.
 --     falls-to                             the measure
 --     size-some                            deciding takes at least a line
---     implies-left, implies-right          an implies node's operands can be decided where it can
---     left-size, implies-size              their sizes
---     implies-code                         and their code, one after the other, is the node's
+--     asked-as                             whether it is a mention of a shared node
+--     by-work-size, by-work-code           a mention of a shared node is decided by its work bit
+--     by-kind-size, by-kind-code           any other node, and a shared node in its own code, by what it is
+--     work-room, work-code                 so much output that takes, and so it is written
+--     Implied, implied                     an implies node: its operands can be decided where it can, and their code is the node's
 --     simple-room, simple-code             any other node
 -- Assumes nothing.
 use mathlib.Core.Path.{_≡_, refl, sym, ap, subst, _∙_}
-use mathlib.Core.Bool.{true}
+use mathlib.Core.Logic.{inl, inr}
+use mathlib.Core.Bool.{Bool, true, false, not, _&&_, and-true, and-false}
 use mathlib.Core.List.{List, _++_}
 use Prim.Native.Nat.{ℕ, _+_, _-_, _*_, _≤_, _<_}
 use native.Mathlib.Omega.{arith}
 use lib.Dec.{ltb}
 use lib.ListN.{length, getD}
 use Rattle.spec.specs.Questions.{all}
-use Rattle.spec.specs.Rule.{form32, field, NodeFields, nodeFields, Node, falseNode, testNode, impliesNode, sinceNode, weakPreviousNode, nodeOf, Table, nodeAt, operands}
+use Rattle.spec.specs.Rule.{form32, field, NodeFields, nodeFields, Node, falseNode, testNode, impliesNode, sinceNode, weakPreviousNode, nodeOf, Table, nodeAt, operands, isShared}
+use Rattle.spec.specs.Script.{ifWork, branch, goto, wordFor, mostLines}
 use Rattle.spec.specs.Facts.{valueIs, Facts, _∪_, one}
 use Rattle.spec.specs.Check.{lineLength}
-use Rattle.spec.specs.Weaver.{sizeFrom, decideSize, decideFrom, decide}
+use Rattle.spec.specs.Weaver.{sizeFrom, decideSize, leaf, decideFrom, decide}
+use Rattle.spec.proofs.BoolLaws.{clash, decided}
 use Rattle.spec.proofs.KindLaws.{by-kind}
 use Rattle.spec.proofs.RuleLaws.{InOrder, by-lower, both-lower, rule-out}
-use Rattle.spec.proofs.WeaverLaws.{decideSize-is, decide-at}
+use Rattle.spec.proofs.WeaverLaws.{size-shared, size-own, by-mention}
+use Rattle.sets.specs.Sets.{setOf}
 use Rattle.rule.proofs.NodeLaws.{node-at, kind-3}
+use Rattle.output.specs.Written.{storedLine, over, written}
 use Rattle.layout.specs.Layout.{tableIn}
-use Rattle.weaver.specs.Laid.{Deciding}
+use Rattle.weaver.specs.Parts.{deciding, decidingSize}
+use Rattle.weaver.specs.Laid.{leftIn, rightIn, Deciding}
+use Rattle.weaver.proofs.SimpleLaws.{leaf-words}
 
 -- the measure falls
 pub falls-to : (j k t : ℕ) → k ≡ t → j < k → j < t
@@ -39,10 +48,40 @@ positive size (weakPreviousNode o) k h = omega arith
 lower-left : (t : Table) → InOrder t → (k l r : ℕ) → nodeAt t k ≡ impliesNode l r → (l < k) × (r < k)
 lower-left t o k l r e = both-lower k l r (ap (λ x. all (λ j. ltb j k) (operands x)) (sym e) ∙ o .lower k)
 
+-- a mention of a shared node has two lines
 pub size-some : (t : Table) → InOrder t → (k : ℕ) → 0 < decideSize t k
-size-some t o = by-lower (λ k. 0 < decideSize t k) (λ k below.
-    subst (λ n. 0 < n) (sym (decideSize-is t o k))
-    (positive (decideSize t) (nodeAt t k) k (λ j l r e. below l (lower-left t o k l r e .0))))
+size-some t o = by-lower (λ k. 0 < decideSize t k) (λ k below. elim (decided (isShared t k)) [
+  | inl s ↦ omega (arith, size-shared t o k s)
+  | inr s ↦ subst (λ n. 0 < n) (sym (size-own t o k s))
+      (positive (decideSize t) (nodeAt t k) k (λ j l r e. below l (lower-left t o k l r e .0)))
+])
+
+-- ---- a mention of a shared node, and any other decision
+
+-- the test in the code, of the set
+pub asked-as : (h x own v : Bool) → h ≡ x → (h && not own) ≡ v → (x && not own) ≡ v
+asked-as h x own v e d = ap (λ b. b && not own) (sym e) ∙ d
+
+module _ (t : Table) (order : InOrder t) (k : ℕ) where
+  pub by-work-size : (own : Bool) → (isShared t k && not own) ≡ true → decidingSize own t k ≡ 2
+  by-work-size true e = clash e (and-false (isShared t k))
+  by-work-size false e = size-shared t order k (sym (and-true (isShared t k)) ∙ e)
+
+  pub by-work-code : (own : Bool) (p y n : ℕ) (F : Facts) → (isShared t k && not own) ≡ true
+      → leaf (ifWork k) k p y n F ≡ deciding own t k p y n F
+  by-work-code true p y n F e = clash e (and-false (isShared t k))
+  by-work-code false p y n F e = by-mention t order (λ xs. leaf (ifWork k) k p y n F ≡ xs) k p y n F (λ s. refl)
+      (λ s. clash (sym (and-true (isShared t k)) ∙ e) s)
+
+  pub by-kind-size : (own : Bool) → (isShared t k && not own) ≡ false → decidingSize own t k ≡ sizeFrom (decideSize t) (nodeAt t k) k
+  by-kind-size true e = refl
+  by-kind-size false e = size-own t order k (sym (and-true (isShared t k)) ∙ e)
+
+  pub by-kind-code : (own : Bool) (p y n : ℕ) (F : Facts) → (isShared t k && not own) ≡ false
+      → decideFrom t (decide t) (nodeAt t k) k p y n F ≡ deciding own t k p y n F
+  by-kind-code true p y n F e = refl
+  by-kind-code false p y n F e = by-mention t order (λ xs. decideFrom t (decide t) (nodeAt t k) k p y n F ≡ xs) k p y n F
+      (λ s. clash s (sym (and-true (isShared t k)) ∙ e)) (λ s. refl)
 
 -- a node's size looks at its operands for implies only
 leaf-size : (size : ℕ → ℕ) (f : NodeFields) (k : ℕ) → (f .kind ≡ 3 → ⊥) → sizeFrom size (nodeOf f) k ≡ sizeFrom (λ j. 0) (nodeOf f) k
@@ -50,7 +89,26 @@ leaf-size size f k other =
     by-kind f (λ i x. (i ≡ 3 → ⊥) → sizeFrom size x k ≡ sizeFrom (λ j. 0) x k) (λ o. refl) (λ o. refl) (λ o. refl) (λ o. absurd (o refl)) (λ o. refl)
     (λ o. refl) (λ o. refl) (λ i h o. refl) other
 
-module _ (rule sizes : List ℕ) (k place onTrue onFalse : ℕ) (out : List ℕ) (d : Deciding rule sizes k place onTrue onFalse out) where
+-- what is known of an implies node, by its word, where it can be decided by what it is
+pub record Implied (rule sizes : List ℕ) (shared : ℕ) (own : Bool) (k place onTrue onFalse : ℕ) (out : List ℕ) : Type 0 where
+  pub lower : (leftIn rule k < k) × (rightIn rule k < k)
+  pub ordered : InOrder (tableIn rule)
+  pub size : getD sizes (leftIn rule k) 0 ≡ decideSize (tableIn rule) (leftIn rule k)
+  -- where the code for right starts, in the script and in the output, which has space for it
+  pub inside : place + getD sizes (leftIn rule k) 0 < mostLines
+  pub room : lineLength * (getD sizes (leftIn rule k) 0 + decideSize (tableIn rule) (rightIn rule k)) ≤ length out
+  -- its operands can be decided where it can
+  pub left : Deciding rule sizes shared false (leftIn rule k) place (place + getD sizes (leftIn rule k) 0) onTrue out
+  pub right : (part : List ℕ) → length part ≡ length out - lineLength * getD sizes (leftIn rule k) 0
+      → Deciding rule sizes shared false (rightIn rule k) (place + getD sizes (leftIn rule k) 0) onTrue onFalse part
+  -- and their code, one after the other, is the node's
+  pub code : (F : Facts)
+      → decide (tableIn rule) (leftIn rule k) place (place + getD sizes (leftIn rule k) 0) onTrue F
+      ++ decide (tableIn rule) (rightIn rule k) (place + getD sizes (leftIn rule k) 0) onTrue onFalse (F ∪ one (valueIs true) (leftIn rule k))
+      ≡ deciding own (tableIn rule) k place onTrue onFalse F
+
+module _ (rule sizes : List ℕ) (shared : ℕ) (own : Bool) (k place onTrue onFalse : ℕ) (out : List ℕ)
+    (d : Deciding rule sizes shared own k place onTrue onFalse out) where
   abbrev t : Table
   t = tableIn rule
 
@@ -58,10 +116,10 @@ module _ (rule sizes : List ℕ) (k place onTrue onFalse : ℕ) (out : List ℕ)
   w = getD rule k 0
 
   abbrev l : ℕ
-  l = field 6 5 w
+  l = leftIn rule k
 
   abbrev r : ℕ
-  r = field 1 5 w
+  r = rightIn rule k
 
   abbrev n : ℕ
   n = getD sizes l 0
@@ -69,67 +127,83 @@ module _ (rule sizes : List ℕ) (k place onTrue onFalse : ℕ) (out : List ℕ)
   pub order : InOrder t
   order = rule-out form32 rule (d .sized .0) .ordered
 
-  module _ (e : field 29 3 w ≡ 3) where
-    is-implies : nodeAt t k ≡ impliesNode l r
-    is-implies = node-at rule k ∙ kind-3 (nodeFields w) e
+  asked : (b : Bool) → (setOf shared k && not own) ≡ b → (isShared t k && not own) ≡ b
+  asked b e = asked-as (setOf shared k) (isShared t k) own b (ap (λ s. s k) (d .sharedIs)) e
 
-    pub lower : (l < k) × (r < k)
-    lower = lower-left t order k l r is-implies
+  module _ (a : (setOf shared k && not own) ≡ true) where
+    pub work-room : 16 ≤ length out
+    work-room = let o = d .inOutput in omega (arith, by-work-size t order k own (asked true a))
 
-    pub left-size : n ≡ decideSize t l
-    left-size = let b = lower in let i = d .isNode in d .sized .1 l (omega arith)
+    pub work-code : (after : List ℕ) (F : Facts) (word : ℕ) → word ≡ wordFor (branch (ifWork k) onTrue)
+        → after ≡ over (storedLine word F ++ storedLine (wordFor (goto onFalse)) (F ∪ one (valueIs false) k)) out
+        → after ≡ written (deciding own t k place onTrue onFalse F) out
+    work-code after F word ew e =
+        e ∙ ap (λ ws. over ws out) (leaf-words word k place onTrue onFalse (ifWork k) F ew)
+        ∙ ap (λ ls. written ls out) (by-work-code t order k own place onTrue onFalse F (asked true a))
 
-    pub implies-size : decideSize t k ≡ n + decideSize t r
-    implies-size = decideSize-is t order k ∙ ap (λ x. sizeFrom (decideSize t) x k) is-implies ∙ ap (λ m. m + decideSize t r) (sym left-size)
+  module _ (a : (setOf shared k && not own) ≡ false) where
+    module _ (e : field 29 3 w ≡ 3) where
+      is-implies : nodeAt t k ≡ impliesNode l r
+      is-implies = node-at rule k ∙ kind-3 (nodeFields w) e
 
-    pub implies-left : Deciding rule sizes l place (place + n) onTrue out
-    implies-left =
-        let b = lower in
-        let i = d .isNode in
-        let s = size-some t order r in
-        let a = d .inScript in
-        let o = d .inOutput in
-        record {
-          sized = d .sized;
-          isNode = omega arith;
-          trueLine = omega (arith, implies-size);
-          falseLine = d .trueLine;
-          inScript = omega (arith, implies-size, left-size);
-          inOutput = omega (arith, implies-size, left-size);
-        }
+      lower : (l < k) × (r < k)
+      lower = lower-left t order k l r is-implies
 
-    pub implies-right : (part : List ℕ) → length part ≡ length out - 8 * n → Deciding rule sizes r (place + n) onTrue onFalse part
-    implies-right part e =
-        let b = lower in
-        let i = d .isNode in
-        let a = d .inScript in
-        let o = d .inOutput in
-        record {
-          sized = d .sized;
-          isNode = omega arith;
-          trueLine = d .trueLine;
-          falseLine = d .falseLine;
-          inScript = omega (arith, implies-size);
-          inOutput = omega (arith, implies-size, e);
-        }
+      left-size : n ≡ decideSize t l
+      left-size = let b = lower in let i = d .isNode in d .sized .1 l (omega arith)
 
-    pub implies-code : (F : Facts) → decide t l place (place + n) onTrue F ++ decide t r (place + n) onTrue onFalse (F ∪ one (valueIs true) l)
-        ≡ decide t k place onTrue onFalse F
-    unfolding decideFrom
-    implies-code F =
-        ap (λ m. decide t l place (place + m) onTrue F ++ decide t r (place + m) onTrue onFalse (F ∪ one (valueIs true) l)) left-size
-        ∙ ap (λ x. decideFrom t (decide t) x k place onTrue onFalse F) (sym is-implies)
-        ∙ sym (decide-at t order k place onTrue onFalse F)
+      whole : decidingSize own t k ≡ n + decideSize t r
+      whole =
+          by-kind-size t order k own (asked false a) ∙ ap (λ x. sizeFrom (decideSize t) x k) is-implies ∙ ap (λ m. m + decideSize t r) (sym left-size)
 
-  module _ (other : field 29 3 w ≡ 3 → ⊥) where
-    pub simple-room : lineLength * sizeFrom (λ j. 0) (nodeOf (nodeFields w)) k ≤ length out
-    simple-room =
-        let e : decideSize t k ≡ sizeFrom (λ j. 0) (nodeOf (nodeFields w)) k =
-        decideSize-is t order k ∙ ap (λ x. sizeFrom (decideSize t) x k) (node-at rule k) ∙ leaf-size (decideSize t) (nodeFields w) k other in
+      pub implied : Implied rule sizes shared own k place onTrue onFalse out
+      unfolding decideFrom
+      implied =
+          let b = lower in
+          let i = d .isNode in
+          let s = size-some t order r in
+          let p = d .inScript in
+          let o = d .inOutput in
+          record {
+            lower = b;
+            ordered = order;
+            size = left-size;
+            inside = omega (arith, whole);
+            room = omega (arith, whole);
+            left = record {
+              sized = d .sized;
+              sharedIs = d .sharedIs;
+              isNode = omega arith;
+              trueLine = omega (arith, whole);
+              falseLine = d .trueLine;
+              inScript = omega (arith, whole, left-size);
+              inOutput = omega (arith, whole, left-size);
+            };
+            right = λ part f. record {
+              sized = d .sized;
+              sharedIs = d .sharedIs;
+              isNode = omega arith;
+              trueLine = d .trueLine;
+              falseLine = d .falseLine;
+              inScript = omega (arith, whole);
+              inOutput = omega (arith, whole, f);
+            };
+            code = λ F.
+                ap (λ m. decide t l place (place + m) onTrue F ++ decide t r (place + m) onTrue onFalse (F ∪ one (valueIs true) l)) left-size
+                ∙ ap (λ x. decideFrom t (decide t) x k place onTrue onFalse F) (sym is-implies)
+                ∙ by-kind-code t order k own place onTrue onFalse F (asked false a);
+          }
+
+    pub simple-room : (field 29 3 w ≡ 3 → ⊥) → lineLength * sizeFrom (λ j. 0) (nodeOf (nodeFields w)) k ≤ length out
+    simple-room other =
+        let e : decidingSize own t k ≡ sizeFrom (λ j. 0) (nodeOf (nodeFields w)) k =
+        by-kind-size t order k own (asked false a) ∙ ap (λ x. sizeFrom (decideSize t) x k) (node-at rule k)
+        ∙ leaf-size (decideSize t) (nodeFields w) k other in
         subst (λ m. lineLength * m ≤ length out) e (d .inOutput)
 
-  pub simple-code : (F : Facts) → decideFrom t (decide t) (nodeOf (nodeFields w)) k place onTrue onFalse F ≡ decide t k place onTrue onFalse F
-  simple-code F = ap (λ x. decideFrom t (decide t) x k place onTrue onFalse F) (sym (node-at rule k)) ∙ sym (decide-at t order k place onTrue onFalse F)
+    pub simple-code : (F : Facts) → decideFrom t (decide t) (nodeOf (nodeFields w)) k place onTrue onFalse F ≡ deciding own t k place onTrue onFalse F
+    simple-code F =
+        ap (λ x. decideFrom t (decide t) x k place onTrue onFalse F) (sym (node-at rule k)) ∙ by-kind-code t order k own place onTrue onFalse F (asked false a)
 
   -- the node's number is small
   pub few : k < 32

@@ -89,7 +89,7 @@ other-line t code place i e =
 
 -- ---- what is asked to write a line
 
-module _ (rule bare sizes starts : List ℕ) (size past : ℕ) (v : Weaving rule bare sizes starts size past) where
+module _ (rule bare sizes starts : List ℕ) (size shared past : ℕ) (v : Weaving rule bare sizes starts size shared past) where
   abbrev table : Table
   table = tableIn rule
 
@@ -100,12 +100,12 @@ module _ (rule bare sizes starts : List ℕ) (size past : ℕ) (v : Weaving rule
   order = rule-out form32 rule (v .sized .0) .ordered
 
   pub woven-block : (l place : ℕ) (out : List ℕ) → l < length bare → place ≡ startOf table code l → isPresent (instructionAt code l) ≡ true
-      → 8 * lineSize table (instructionAt code l) ≤ length out → Blocking rule sizes place out
+      → 8 * lineSize table (instructionAt code l) ≤ length out → Blocking rule sizes shared place out
   woven-block l place out h e p room =
       let q : isPresent (instructionRead (getD bare l 0)) ≡ true = ap isPresent (sym (code-at bare l)) ∙ p in
       let i = present-inside rule bare (v .started .weavable) l h q in
       let z : blockSize table ≡ lineSize table (instructionAt code l) = present-line table code place (instructionAt code l) p .0 in
-      record { sized = v .sized; inScript = omega arith; inOutput = omega arith }
+      record { sized = v .sized; sharedIs = v .sharedIs; inScript = omega arith; inOutput = omega arith }
 
   pub woven-line : (l : ℕ) (out : List ℕ) → 8 * lineSize table (instructionAt code l) ≤ length out → isPresent (instructionAt code l) ≡ false → 8 ≤ length out
   woven-line l out room p =

@@ -1,4 +1,4 @@
--- A past node's code, part after part.
+-- The code of a node with a work bit, part after part.
 --     one-line, two-lines                        the words of a line, of two lines
 --     deciding-in, deciding-some                 what deciding asks
 --     length-left, length-end                    sizes
@@ -6,6 +6,8 @@
 --     since-right, since-end, since-size, since-code    a since node's code
 --     weak-left, weak-size, weak-code            a weak previous node's code
 --     no-code                                    other nodes have none
+--     own-is, shared-size, shared-own, shared-code      a shared node's code
+--     past-size, past-code, past-updating        the code of a node that is not shared
 -- Assumes nothing.
 use mathlib.Core.Path.{_≡_, refl, sym, ap, ap₂, subst, _∙_}
 use mathlib.Core.Bool.{true, false}
@@ -15,18 +17,19 @@ use native.Mathlib.Omega.{arith}
 use lib.ListN.{length, getD, drop, length-drop, length-append}
 use lib.Dec.{ltb}
 use Rattle.spec.specs.Questions.{all}
-use Rattle.spec.specs.Rule.{form32, field, nodeFields, sinceNode, weakPreviousNode, Table, nodeAt, operands}
+use Rattle.spec.specs.Rule.{form32, field, nodeFields, nodeOf, sinceNode, weakPreviousNode, Table, nodeAt, isShared, operands}
 use Rattle.spec.specs.Script.{Instruction, wordFor}
 use Rattle.spec.specs.Facts.{valueIs, priorIs, Facts, _∪_, one}
-use Rattle.spec.specs.Weaver.{line, decideSize, decide, setting, update, updateSize}
+use Rattle.spec.specs.Weaver.{line, sizeFrom, decideSize, decideFrom, decide, setting, update, updateSize, sharedSize, sharedCode, workSize, workCode}
 use Rattle.spec.proofs.KindLaws.{by-kind}
 use Rattle.spec.proofs.RuleLaws.{InOrder, both-lower, one-lower, rule-out}
 use Rattle.spec.proofs.WeaverLaws.{length-decide, length-setting}
 use Rattle.rule.proofs.NodeLaws.{node-at, kind-4, kind-5}
 use Rattle.layout.specs.Layout.{tableIn}
+use Rattle.layout.proofs.SizeLaws.{own-at}
 use Rattle.output.specs.Written.{storedLine, over, written}
 use Rattle.weaver.specs.Parts.{leftLines, sinceEnd}
-use Rattle.weaver.specs.Laid.{Deciding, Updating, Ending, leftIn, rightIn}
+use Rattle.weaver.specs.Laid.{Deciding, Updating, Working, Ending, leftIn, rightIn}
 use Rattle.output.proofs.OverLaws.{words-append, stored-line}
 use Rattle.weaver.proofs.DecisionLaws.{size-some}
 
@@ -41,12 +44,13 @@ two-lines w v i j F G F′ G′ o ew eF ev eG =
     ∙ sym (words-append (line i F ∷ []) (line j G ∷ [])))
 
 -- a node can be decided into any output of the same length, and its code has a line
-pub deciding-in : (rule sizes : List ℕ) (k place onTrue onFalse : ℕ) (out part : List ℕ) → length part ≡ length out
-    → Deciding rule sizes k place onTrue onFalse out → Deciding rule sizes k place onTrue onFalse part
-deciding-in rule sizes k place onTrue onFalse out part e d =
+pub deciding-in : (rule sizes : List ℕ) (shared : ℕ) (k place onTrue onFalse : ℕ) (out part : List ℕ) → length part ≡ length out
+    → Deciding rule sizes shared false k place onTrue onFalse out → Deciding rule sizes shared false k place onTrue onFalse part
+deciding-in rule sizes shared k place onTrue onFalse out part e d =
     let o = d .inOutput in
     record {
       sized = d .sized;
+      sharedIs = d .sharedIs;
       isNode = d .isNode;
       trueLine = d .trueLine;
       falseLine = d .falseLine;
@@ -54,9 +58,9 @@ deciding-in rule sizes k place onTrue onFalse out part e d =
       inOutput = omega arith;
     }
 
-pub deciding-some : (rule sizes : List ℕ) (k place onTrue onFalse : ℕ) (out : List ℕ) → Deciding rule sizes k place onTrue onFalse out
+pub deciding-some : (rule sizes : List ℕ) (shared : ℕ) (k place onTrue onFalse : ℕ) (out : List ℕ) → Deciding rule sizes shared false k place onTrue onFalse out
     → 0 < decideSize (tableIn rule) k
-deciding-some rule sizes k place onTrue onFalse out d = size-some (tableIn rule) (rule-out form32 rule (d .sized .0) .ordered) k
+deciding-some rule sizes shared k place onTrue onFalse out d = size-some (tableIn rule) (rule-out form32 rule (d .sized .0) .ordered) k
 
 pub length-left : (t : Table) → InOrder t → (k left place set : ℕ) (F : Facts) → length (leftLines t k left place set F) ≡ 2 + decideSize t left
 unfolding leftLines
@@ -71,7 +75,7 @@ length-end t o k left right place F =
 
 -- ---- the rest of a since node's code
 
-module _ (rule sizes : List ℕ) (k place : ℕ) (out : List ℕ) (u : Ending rule sizes k place out) where
+module _ (rule sizes : List ℕ) (shared : ℕ) (k place : ℕ) (out : List ℕ) (u : Ending rule sizes shared k place out) where
   abbrev l : ℕ
   l = leftIn rule k
 
@@ -85,7 +89,7 @@ module _ (rule sizes : List ℕ) (k place : ℕ) (out : List ℕ) (u : Ending ru
   pub end-size : n ≡ decideSize (tableIn rule) l
   end-size = let b = u .lower .0 in let i = u .isNode in u .sized .1 l (omega arith)
 
-  pub end-left : Deciding rule sizes l (place + 2) (place + 2 + n) (place + 2 + n + 2) (drop 16 out)
+  pub end-left : Deciding rule sizes shared false l (place + 2) (place + 2 + n) (place + 2 + n + 2) (drop 16 out)
   end-left =
       let b = u .lower .0 in
       let i = u .isNode in
@@ -94,6 +98,7 @@ module _ (rule sizes : List ℕ) (k place : ℕ) (out : List ℕ) (u : Ending ru
       let d = length-drop 16 out in
       record {
         sized = u .sized;
+        sharedIs = u .sharedIs;
         isNode = omega arith;
         trueLine = omega (arith, end-size);
         falseLine = omega (arith, end-size);
@@ -103,7 +108,7 @@ module _ (rule sizes : List ℕ) (k place : ℕ) (out : List ℕ) (u : Ending ru
 
 -- ---- a since node's code
 
-module _ (rule sizes : List ℕ) (k place : ℕ) (out : List ℕ) (u : Updating rule sizes k place out) where
+module _ (rule sizes : List ℕ) (shared : ℕ) (k place : ℕ) (out : List ℕ) (u : Updating rule sizes shared k place out) where
   abbrev t : Table
   t = tableIn rule
 
@@ -140,7 +145,7 @@ module _ (rule sizes : List ℕ) (k place : ℕ) (out : List ℕ) (u : Updating 
     unfolding updateSize
     since-size = ap₂ (λ a b. a + 2 + b + 3) right-size left-size ∙ ap (updateSize t) (sym is-since)
 
-    pub since-right : Deciding rule sizes right place (place + getD sizes right 0 + 2 + getD sizes left 0) (place + getD sizes right 0) out
+    pub since-right : Deciding rule sizes shared false right place (place + getD sizes right 0 + 2 + getD sizes left 0) (place + getD sizes right 0) out
     since-right =
         let b = since-lower .1 in
         let i = u .isNode in
@@ -148,6 +153,7 @@ module _ (rule sizes : List ℕ) (k place : ℕ) (out : List ℕ) (u : Updating 
         let o = u .inOutput in
         record {
           sized = u .sized;
+          sharedIs = u .sharedIs;
           isNode = omega arith;
           trueLine = omega (arith, since-size);
           falseLine = omega (arith, since-size);
@@ -155,13 +161,14 @@ module _ (rule sizes : List ℕ) (k place : ℕ) (out : List ℕ) (u : Updating 
           inOutput = omega (arith, since-size, right-size);
         }
 
-    pub since-end : (part : List ℕ) → length part ≡ length out - 8 * getD sizes right 0 → Ending rule sizes k (place + getD sizes right 0) part
+    pub since-end : (part : List ℕ) → length part ≡ length out - 8 * getD sizes right 0 → Ending rule sizes shared k (place + getD sizes right 0) part
     since-end part p =
         let i = u .isNode in
         let a = u .inScript in
         let o = u .inOutput in
         record {
           sized = u .sized;
+          sharedIs = u .sharedIs;
           isNode = u .isNode;
           lower = since-lower;
           inScript = omega (arith, since-size, left-size);
@@ -191,7 +198,7 @@ module _ (rule sizes : List ℕ) (k place : ℕ) (out : List ℕ) (u : Updating 
     unfolding updateSize
     weak-size = ap (λ a. a + 3) weak-left-size ∙ ap (updateSize t) (sym is-weak)
 
-    pub weak-left : Deciding rule sizes left place (place + getD sizes left 0) (place + getD sizes left 0 + 2) out
+    pub weak-left : Deciding rule sizes shared false left place (place + getD sizes left 0) (place + getD sizes left 0 + 2) out
     weak-left =
         let b = weak-lower in
         let i = u .isNode in
@@ -199,6 +206,7 @@ module _ (rule sizes : List ℕ) (k place : ℕ) (out : List ℕ) (u : Updating 
         let o = u .inOutput in
         record {
           sized = u .sized;
+          sharedIs = u .sharedIs;
           isNode = omega arith;
           trueLine = omega (arith, weak-size);
           falseLine = omega (arith, weak-size);
@@ -225,3 +233,57 @@ no-code rule k place F a b =
     (by-kind (nodeFields (getD rule k 0)) (λ i x. (i ≡ 4 → ⊥) → (i ≡ 5 → ⊥) → (0 ≡ updateSize t x) × ([] ≡ update t x k place F))
     (λ u v. (refl, refl)) (λ u v. (refl, refl)) (λ u v. (refl, refl)) (λ u v. (refl, refl)) (λ u v. absurd (u refl)) (λ u v. absurd (v refl))
     (λ u v. (refl, refl)) (λ i h u v. (refl, refl)) a b)
+
+-- ---- any node
+
+module _ (rule sizes : List ℕ) (shared : ℕ) (k place : ℕ) (out : List ℕ) (u : Working rule sizes shared k place out) where
+  abbrev table : Table
+  table = tableIn rule
+
+  module _ (s : isShared table k ≡ true) (n : ℕ) (e : n ≡ sizeFrom (λ j. getD sizes j 0) (nodeOf (nodeFields (getD rule k 0))) 0) where
+    pub own-is : n ≡ sizeFrom (decideSize table) (nodeAt table k) k
+    own-is = let i = u .isNode in e ∙ own-at rule sizes k (u .sized .0) (λ j l. u .sized .1 j (omega arith))
+
+    pub shared-size : n + 3 ≡ workSize table k
+    unfolding workSize sharedSize
+    shared-size = rw s (omega (arith, own-is))
+
+    pub shared-own : Deciding rule sizes shared true k place (place + n) (place + n + 2) out
+    shared-own =
+        let a = u .inScript in
+        let o = u .inOutput in
+        record {
+          sized = u .sized;
+          sharedIs = u .sharedIs;
+          isNode = u .isNode;
+          trueLine = omega (arith, shared-size);
+          falseLine = omega (arith, shared-size);
+          inScript = omega (arith, shared-size, own-is);
+          inOutput = omega (arith, shared-size, own-is);
+        }
+
+    pub shared-code : (F : Facts)
+        → decideFrom table (decide table) (nodeAt table k) k place (place + n) (place + n + 2) F ++ setting k k (place + n) F ≡ workCode table k place F
+    unfolding workCode sharedCode
+    shared-code F = rw (s, own-is)
+
+  module _ (s : isShared table k ≡ false) where
+    pub past-size : updateSize table (nodeAt table k) ≡ workSize table k
+    unfolding workSize
+    past-size = rw s
+
+    pub past-code : (F : Facts) → update table (nodeAt table k) k place F ≡ workCode table k place F
+    unfolding workCode
+    past-code F = rw s
+
+    pub past-updating : Updating rule sizes shared k place out
+    past-updating =
+        let a = u .inScript in
+        let o = u .inOutput in
+        record {
+          sized = u .sized;
+          sharedIs = u .sharedIs;
+          isNode = u .isNode;
+          inScript = omega (arith, past-size);
+          inOutput = omega (arith, past-size);
+        }

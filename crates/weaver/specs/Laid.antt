@@ -1,32 +1,43 @@
 -- What is settled before lines are written: that they are lines of a script, and that the output has space for them.
 use mathlib.Core.Path.{_≡_}
+use mathlib.Core.Bool.{Bool}
 use mathlib.Core.List.{List}
 use Prim.Native.Nat.{ℕ, _+_, _*_, _<_, _≤_}
 use lib.ListN.{length, getD}
-use Rattle.spec.specs.Questions.{count}
-use Rattle.spec.specs.Rule.{field, nodeAt, lastNode, isPast}
+use Rattle.spec.specs.Questions.{count, passed}
+use Rattle.spec.specs.Rule.{form32, field, nodeAt, lastNode, isPast}
 use Rattle.spec.specs.Script.{mostLines}
 use Rattle.spec.specs.Check.{lineLength}
-use Rattle.spec.specs.Weaver.{decideSize, updateSize, updatesSize, blockSize}
-use Rattle.layout.specs.Layout.{tableIn, Sized, Started}
+use Rattle.spec.specs.Weaver.{decideSize, updateSize, workSize, updatesSize, blockSize, checkWeaving}
+use Rattle.layout.specs.Layout.{tableIn, Shared, Sized, Started}
 use Rattle.sets.specs.Sets.{setOf}
-use Rattle.weaver.specs.Parts.{pastNodes}
+use Rattle.weaver.specs.Parts.{pastNodes, decidingSize}
 
 -- node k can be decided at `place` towards two lines, and the output has space for its code
-pub record Deciding (rule sizes : List ℕ) (k place onTrue onFalse : ℕ) (out : List ℕ) : Type 0 where
+pub record Deciding (rule sizes : List ℕ) (shared : ℕ) (own : Bool) (k place onTrue onFalse : ℕ) (out : List ℕ) : Type 0 where
   pub sized : Sized rule sizes
+  pub sharedIs : Shared rule shared
   pub isNode : k < length rule
   pub trueLine : onTrue < mostLines
   pub falseLine : onFalse < mostLines
-  pub inScript : place + decideSize (tableIn rule) k ≤ mostLines
-  pub inOutput : lineLength * decideSize (tableIn rule) k ≤ length out
+  pub inScript : place + decidingSize own (tableIn rule) k ≤ mostLines
+  pub inOutput : lineLength * decidingSize own (tableIn rule) k ≤ length out
 
--- node k's code can be written at `place`, before another line, and the output has space for it
-pub record Updating (rule sizes : List ℕ) (k place : ℕ) (out : List ℕ) : Type 0 where
+-- a past node's code can be written at `place`, before another line, and the output has space for it
+pub record Updating (rule sizes : List ℕ) (shared : ℕ) (k place : ℕ) (out : List ℕ) : Type 0 where
   pub sized : Sized rule sizes
+  pub sharedIs : Shared rule shared
   pub isNode : k < length rule
   pub inScript : place + updateSize (tableIn rule) (nodeAt (tableIn rule) k) < mostLines
   pub inOutput : lineLength * updateSize (tableIn rule) (nodeAt (tableIn rule) k) ≤ length out
+
+-- so can the code of any node
+pub record Working (rule sizes : List ℕ) (shared : ℕ) (k place : ℕ) (out : List ℕ) : Type 0 where
+  pub sized : Sized rule sizes
+  pub sharedIs : Shared rule shared
+  pub isNode : k < length rule
+  pub inScript : place + workSize (tableIn rule) k < mostLines
+  pub inOutput : lineLength * workSize (tableIn rule) k ≤ length out
 
 -- the operands of node k, from its word
 abbrev pub leftIn : (rule : List ℕ) → ℕ → ℕ
@@ -36,34 +47,47 @@ abbrev pub rightIn : (rule : List ℕ) → ℕ → ℕ
 rightIn rule k = field 1 5 (getD rule k 0)
 
 -- the rest of a since node's code, after deciding right, can be written at `place`, before another line
-pub record Ending (rule sizes : List ℕ) (k place : ℕ) (out : List ℕ) : Type 0 where
+pub record Ending (rule sizes : List ℕ) (shared : ℕ) (k place : ℕ) (out : List ℕ) : Type 0 where
   pub sized : Sized rule sizes
+  pub sharedIs : Shared rule shared
   pub isNode : k < length rule
   pub lower : (leftIn rule k < k) × (rightIn rule k < k)
   pub inScript : place + 2 + decideSize (tableIn rule) (leftIn rule k) + 3 < mostLines
   pub inOutput : lineLength * (2 + decideSize (tableIn rule) (leftIn rule k) + 3) ≤ length out
 
--- the code of all past nodes can be written at `place`, before another line
-pub record Updatable (rule sizes : List ℕ) (place : ℕ) (out : List ℕ) : Type 0 where
+-- the code of all nodes with a work bit can be written at `place`, before another line
+pub record Updatable (rule sizes : List ℕ) (shared : ℕ) (place : ℕ) (out : List ℕ) : Type 0 where
   pub sized : Sized rule sizes
+  pub sharedIs : Shared rule shared
   pub inScript : place + updatesSize (length rule) (tableIn rule) < mostLines
   pub inOutput : lineLength * updatesSize (length rule) (tableIn rule) ≤ length out
 
 -- the rest of a block can be written at `place`; `end` is a line
-pub record Guarding (rule sizes : List ℕ) (place end : ℕ) (out : List ℕ) : Type 0 where
+pub record Guarding (rule sizes : List ℕ) (shared : ℕ) (place end : ℕ) (out : List ℕ) : Type 0 where
   pub sized : Sized rule sizes
+  pub sharedIs : Shared rule shared
   pub endLine : end < mostLines
   pub inScript : place + decideSize (tableIn rule) (lastNode (tableIn rule)) < mostLines
   pub inOutput : lineLength * (decideSize (tableIn rule) (lastNode (tableIn rule)) + (1 + count isPast (tableIn rule))) ≤ length out
 
 -- a block can be written at `place`, before another line
-pub record Blocking (rule sizes : List ℕ) (place : ℕ) (out : List ℕ) : Type 0 where
+pub record Blocking (rule sizes : List ℕ) (shared : ℕ) (place : ℕ) (out : List ℕ) : Type 0 where
   pub sized : Sized rule sizes
+  pub sharedIs : Shared rule shared
   pub inScript : place + blockSize (tableIn rule) < mostLines
   pub inOutput : lineLength * blockSize (tableIn rule) ≤ length out
 
--- the weaver takes the script, and its tables are made
-pub record Weaving (rule bare sizes starts : List ℕ) (size past : ℕ) : Type 0 where
+-- the weaver takes the script, a block has `size` lines, and the nodes' sizes and groups are known
+pub record Laying (rule bare sizes : List ℕ) (size shared past : ℕ) : Type 0 where
   pub sized : Sized rule sizes
-  pub started : Started rule bare starts size
+  pub sharedIs : Shared rule shared
   pub pastIs : setOf past ≡ pastNodes (tableIn rule)
+  pub weavable : checkWeaving form32 rule bare ≡ passed tt
+  pub blockIs : size ≡ blockSize (tableIn rule)
+
+-- and where bare lines start
+pub record Weaving (rule bare sizes starts : List ℕ) (size shared past : ℕ) : Type 0 where
+  pub sized : Sized rule sizes
+  pub sharedIs : Shared rule shared
+  pub pastIs : setOf past ≡ pastNodes (tableIn rule)
+  pub started : Started rule bare starts size

@@ -1,11 +1,13 @@
 // The block that decides the rule before a present.
 use crate::decision::put_decision;
 use crate::line::code;
-use crate::update::put_update;
+use crate::update::put_work;
 use checker::facts::Facts;
 use checker::facts::learn_value;
 use output::put_line;
 use rule::node::past_at;
+use sets::has;
+use sets::union;
 use sets::with_if;
 ghost use mathlib.Core.Path.{_≡_};
 ghost use mathlib.Core.Bool.{cond};
@@ -13,7 +15,7 @@ ghost use mathlib.Core.List.{[], _∷_};
 ghost use Prim.Native.Nat.{_+_, _*_, _<_, _≤_};
 ghost use lib.ListN.{length};
 ghost use Rattle.spec.specs.Questions.{count};
-ghost use Rattle.spec.specs.Rule.{nodeAt, isPast};
+ghost use Rattle.spec.specs.Rule.{nodeAt, isPast, hasWork};
 ghost use Rattle.spec.specs.Script.{keep};
 ghost use Rattle.spec.specs.Facts.{keptIsPrior, workIsNext, workIsPrior, _∪_, only};
 ghost use Rattle.spec.specs.Weaver.{line, updatesSize, updates, keeps, blockSize, block};
@@ -39,9 +41,17 @@ pub(crate) fn noted(m: u64, w: u64, c: u64) -> Facts
     }
 }
 
-// The code of the past nodes in rising order; `past` is the set of them. Hands back how many lines it has.
-fn put_updates(rule: &[u32], sizes: &[u16; 64], past: u64, place: usize, out: &mut [u32]) -> usize
-    requires { ⌜ Updatable (now rule) (now sizes) place (now out) × (setOf past ≡ pastNodes (tableIn (now rule))) ⌝ }
+// The code of the nodes with a work bit in rising order; `work` is the set of them, `past` of the past ones. Hands back how many lines it has.
+fn put_updates(
+    rule: &[u32],
+    sizes: &[u16; 64],
+    shared: u64,
+    past: u64,
+    work: u64,
+    place: usize,
+    out: &mut [u32],
+) -> usize
+    requires { ⌜ Updatable (now rule) (now sizes) shared place (now out) × (setOf past ≡ pastNodes (tableIn (now rule))) × (setOf work ≡ hasWork (tableIn (now rule))) ⌝ }
     ensures { λ r. ⌜ (r ≡ updatesSize (length (now (rule .entry))) (tableIn (now (rule .entry))))
         × (now (out .exit) ≡ written (updates (length (now (rule .entry))) (tableIn (now (rule .entry))) place) (now (out .entry))) ⌝ }
 {
@@ -50,8 +60,8 @@ fn put_updates(rule: &[u32], sizes: &[u16; 64], past: u64, place: usize, out: &m
     let mut k = 0;
     while k < rule.len() {
         let x = noted(past, done, 0);
-        n += put_update(rule, sizes, k, place + n, x, &mut out[8 * n..]);
-        done = with_if(done, k, past_at(rule, k));
+        n += put_work(rule, sizes, shared, k, place + n, x, &mut out[8 * n..]);
+        done = with_if(done, k, has(work, k));
         k += 1;
     }
     n
@@ -104,18 +114,30 @@ fn put_present(rule: &[u32], past: u64, x: Facts, out: &mut [u32])
 fn put_guard(
     rule: &[u32],
     sizes: &[u16; 64],
+    shared: u64,
     past: u64,
     place: usize,
     end: usize,
     x: Facts,
     out: &mut [u32],
 )
-    requires { ⌜ Guarding (now rule) (now sizes) place end (now out) × (setOf past ≡ pastNodes (tableIn (now rule))) ⌝ }
+    requires { ⌜ Guarding (now rule) (now sizes) shared place end (now out) × (setOf past ≡ pastNodes (tableIn (now rule))) ⌝ }
     ensures { λ r. ⌜ now (out .exit) ≡ written (guardLines (tableIn (now (rule .entry))) place end (factsOf x)) (now (out .entry)) ⌝ }
 {
     let last = rule.len() - 1;
     let n = sizes[last] as usize;
-    put_decision(rule, sizes, last, place, place + n, end, x, out);
+    put_decision(
+        rule,
+        sizes,
+        shared,
+        false,
+        last,
+        place,
+        place + n,
+        end,
+        x,
+        out,
+    );
     put_present(rule, past, x, &mut out[8 * n..]);
 }
 
@@ -123,19 +145,22 @@ fn put_guard(
 pub(crate) fn put_block(
     rule: &[u32],
     sizes: &[u16; 64],
+    shared: u64,
     past: u64,
     size: usize,
     place: usize,
     out: &mut [u32],
 )
-    requires { ⌜ Blocking (now rule) (now sizes) place (now out) × (size ≡ blockSize (tableIn (now rule))) × (setOf past ≡ pastNodes (tableIn (now rule))) ⌝ }
+    requires { ⌜ Blocking (now rule) (now sizes) shared place (now out) × (size ≡ blockSize (tableIn (now rule))) × (setOf past ≡ pastNodes (tableIn (now rule))) ⌝ }
     ensures { λ r. ⌜ now (out .exit) ≡ written (block (tableIn (now (rule .entry))) place) (now (out .entry)) ⌝ }
 {
-    let n = put_updates(rule, sizes, past, place, out);
-    let x = noted(past, past, 0);
+    let work = union(past, shared);
+    let n = put_updates(rule, sizes, shared, past, work, place, out);
+    let x = noted(past, work, 0);
     put_guard(
         rule,
         sizes,
+        shared,
         past,
         place + n,
         place + size,

@@ -4,6 +4,7 @@ use crate::line::put_two;
 use checker::facts::Facts;
 use checker::facts::learn_value;
 use output::put_line;
+use sets::has;
 ghost use mathlib.Core.Path.{_≡_};
 ghost use mathlib.Core.Bool.{false};
 ghost use mathlib.Core.List.{_++_};
@@ -13,11 +14,12 @@ ghost use Rattle.spec.specs.Rule.{field, nodeFields, nodeOf, Table};
 ghost use Rattle.spec.specs.Script.{goto, wordFor};
 ghost use Rattle.spec.specs.Facts.{valueIs, _∪_, one};
 ghost use Rattle.spec.specs.Check.{lineLength};
-ghost use Rattle.spec.specs.Weaver.{sizeFrom, Decision, decideFrom, decide};
+ghost use Rattle.spec.specs.Weaver.{sizeFrom, Decision, decideFrom};
 ghost use Rattle.sets.specs.Sets.{capacity};
 ghost use Rattle.checker.specs.FactSets.{factsOf};
 ghost use Rattle.output.specs.Written.{storedLine, over, written};
 ghost use Rattle.layout.specs.Layout.{tableIn};
+ghost use Rattle.weaver.specs.Parts.{deciding};
 ghost use Rattle.weaver.specs.Laid.{Deciding};
 
 // A leaf, node k: its branch to the true place, then go to the false place, which has F of the leaf.
@@ -52,10 +54,13 @@ fn put_simple(word: u32, k: usize, on_true: usize, on_false: usize, x: Facts, ou
     }
 }
 
-// The code for node k, at `place`; `sizes` has how many lines each node's code has.
+// The code for a mention of node k at `place` or, where `own`, for node k by what it is; `sizes` has how many lines each mention's code has,
+// `shared` the shared nodes.
 pub(crate) fn put_decision(
     rule: &[u32],
     sizes: &[u16; 64],
+    shared: u64,
+    own: bool,
     k: usize,
     place: usize,
     on_true: usize,
@@ -63,19 +68,34 @@ pub(crate) fn put_decision(
     x: Facts,
     out: &mut [u32],
 )
-    requires { ⌜ Deciding (now rule) (now sizes) k place «on_true» «on_false» (now out) ⌝ }
-    ensures { λ r. ⌜ now (out .exit) ≡ written (decide (tableIn (now (rule .entry))) k place «on_true» «on_false» (factsOf x)) (now (out .entry)) ⌝ }
+    requires { ⌜ Deciding (now rule) (now sizes) shared own k place «on_true» «on_false» (now out) ⌝ }
+    ensures { λ r. ⌜ now (out .exit) ≡ written (deciding own (tableIn (now (rule .entry))) k place «on_true» «on_false» (factsOf x)) (now (out .entry)) ⌝ }
 {
     let word = rule[k];
-    if word / 536870912 % 8 == 3 {
+    if has(shared, k) & !own {
+        put_leaf(code(11, 0, k as u32, on_true), k, on_false, x, out);
+    } else if word / 536870912 % 8 == 3 {
         let left = (word / 64 % 32) as usize;
         let right = (word / 2 % 32) as usize;
         let n = sizes[left] as usize;
-        put_decision(rule, sizes, left, place, place + n, on_true, x, out);
+        put_decision(
+            rule,
+            sizes,
+            shared,
+            false,
+            left,
+            place,
+            place + n,
+            on_true,
+            x,
+            out,
+        );
         let y = learn_value(x, left, true, false);
         put_decision(
             rule,
             sizes,
+            shared,
+            false,
             right,
             place + n,
             on_true,

@@ -1,23 +1,19 @@
 // A bare script, line after line.
 use crate::block::noted;
 use crate::block::put_block;
-use checker::closing::belonging;
 use layout::mark_starts;
-use layout::measure_nodes;
 use layout::moved_word;
 use output::put_line;
 use script::line::is_present;
 ghost use mathlib.Core.Path.{_≡_};
 ghost use Prim.Native.Nat.{_*_, _≤_, _<_};
 ghost use lib.ListN.{length};
-ghost use Rattle.spec.specs.Questions.{passed};
-ghost use Rattle.spec.specs.Rule.{form32};
 ghost use Rattle.spec.specs.Script.{bareCode, instructionAt};
 ghost use Rattle.spec.specs.Weaver as spec;
-ghost use Rattle.spec.specs.Weaver.{blockSize, lineSize, startOf, weaveLine, wovenCount, checkWeaving};
+ghost use Rattle.spec.specs.Weaver.{lineSize, startOf, weaveLine, wovenCount};
 ghost use Rattle.layout.specs.Layout.{tableIn};
 ghost use Rattle.output.specs.Written.{written};
-ghost use Rattle.weaver.specs.Laid.{Weaving};
+ghost use Rattle.weaver.specs.Laid.{Laying, Weaving};
 
 // Bare line l, which starts at `place`. Hands back how many lines it becomes.
 fn put_woven(
@@ -26,18 +22,19 @@ fn put_woven(
     sizes: &[u16; 64],
     starts: &[u16; 64],
     size: usize,
+    shared: u64,
     past: u64,
     l: usize,
     place: usize,
     out: &mut [u32],
 ) -> usize
-    requires { ⌜ Weaving (now rule) (now bare) (now sizes) (now starts) size past × (l < length (now bare)) × (place ≡ startOf (tableIn (now rule)) (bareCode (now bare)) l)
+    requires { ⌜ Weaving (now rule) (now bare) (now sizes) (now starts) size shared past × (l < length (now bare)) × (place ≡ startOf (tableIn (now rule)) (bareCode (now bare)) l)
         × (8 * lineSize (tableIn (now rule)) (instructionAt (bareCode (now bare)) l) ≤ length (now out)) ⌝ }
     ensures { λ r. ⌜ (r ≡ lineSize (tableIn (now (rule .entry))) (instructionAt (bareCode (now (bare .entry))) l))
         × (now (out .exit) ≡ written (weaveLine (tableIn (now (rule .entry))) (bareCode (now (bare .entry))) place (instructionAt (bareCode (now (bare .entry))) l)) (now (out .entry))) ⌝ }
 {
     if is_present(bare[l]) {
-        put_block(rule, sizes, past, size, place, out);
+        put_block(rule, sizes, shared, past, size, place, out);
         size
     } else {
         put_line(
@@ -56,10 +53,11 @@ fn put_lines(
     sizes: &[u16; 64],
     starts: &[u16; 64],
     size: usize,
+    shared: u64,
     past: u64,
     out: &mut [u32],
 )
-    requires { ⌜ Weaving (now rule) (now bare) (now sizes) (now starts) size past × (8 * wovenCount (tableIn (now rule)) (bareCode (now bare)) ≤ length (now out)) ⌝ }
+    requires { ⌜ Weaving (now rule) (now bare) (now sizes) (now starts) size shared past × (8 * wovenCount (tableIn (now rule)) (bareCode (now bare)) ≤ length (now out)) ⌝ }
     ensures { λ r. ⌜ now (out .exit) ≡ written (spec.weave (tableIn (now (rule .entry))) (bareCode (now (bare .entry)))) (now (out .entry)) ⌝ }
 {
     let mut n = 0;
@@ -71,6 +69,7 @@ fn put_lines(
             sizes,
             starts,
             size,
+            shared,
             past,
             l,
             n,
@@ -81,14 +80,19 @@ fn put_lines(
 }
 
 // The whole script; a block has `size` lines.
-pub(crate) fn put_script(rule: &[u32], bare: &[u32], size: usize, out: &mut [u32])
-    requires { ⌜ (checkWeaving form32 (now rule) (now bare) ≡ passed tt) × (size ≡ blockSize (tableIn (now rule))) × (8 * wovenCount (tableIn (now rule)) (bareCode (now bare)) ≤ length (now out)) ⌝ }
+pub(crate) fn put_script(
+    rule: &[u32],
+    bare: &[u32],
+    sizes: &[u16; 64],
+    size: usize,
+    shared: u64,
+    past: u64,
+    out: &mut [u32],
+)
+    requires { ⌜ Laying (now rule) (now bare) (now sizes) size shared past × (8 * wovenCount (tableIn (now rule)) (bareCode (now bare)) ≤ length (now out)) ⌝ }
     ensures { λ r. ⌜ now (out .exit) ≡ written (spec.weave (tableIn (now (rule .entry))) (bareCode (now (bare .entry)))) (now (out .entry)) ⌝ }
 {
-    let mut sizes = [0u16; 64];
-    measure_nodes(rule, &mut sizes);
     let mut starts = [0u16; 64];
     mark_starts(rule, bare, size, &mut starts);
-    let past = belonging(rule).m;
-    put_lines(rule, bare, &sizes, &starts, size, past, out);
+    put_lines(rule, bare, sizes, &starts, size, shared, past, out);
 }

@@ -1,4 +1,4 @@
-// A past node's code: its next prior becomes its work bit.
+// The code of a node with a work bit: a past node's next prior, or a shared node's value, becomes that bit.
 use crate::decision::put_decision;
 use crate::line::code;
 use crate::line::put_two;
@@ -6,17 +6,20 @@ use crate::line::with_work;
 use checker::facts::Facts;
 use checker::facts::learn_prior;
 use checker::facts::learn_value;
+use layout::node_size;
 use output::put_line;
+use sets::has;
 ghost use mathlib.Core.Path.{_≡_};
+ghost use mathlib.Core.Bool.{true, false};
 ghost use Prim.Native.Nat.{_+_, _≤_, _<_};
 ghost use lib.ListN.{length, getD, drop};
-ghost use Rattle.spec.specs.Rule.{field, nodeAt};
-ghost use Rattle.spec.specs.Weaver.{setting, update, updateSize};
+ghost use Rattle.spec.specs.Rule.{field, nodeAt, isShared};
+ghost use Rattle.spec.specs.Weaver.{setting, update, updateSize, workCode, workSize};
 ghost use Rattle.sets.specs.Sets.{capacity};
 ghost use Rattle.checker.specs.FactSets.{factsOf};
 ghost use Rattle.output.specs.Written.{written};
 ghost use Rattle.layout.specs.Layout.{tableIn};
-ghost use Rattle.weaver.specs.Laid.{leftIn, rightIn, Deciding, Updating, Ending};
+ghost use Rattle.weaver.specs.Laid.{leftIn, rightIn, Deciding, Updating, Ending, Working};
 ghost use Rattle.weaver.specs.Parts.{leftLines, sinceEnd};
 
 // Set 1, go past, set 0: the value of node v becomes the work bit of node k.
@@ -38,6 +41,7 @@ fn put_setting(k: usize, v: usize, place: usize, x: Facts, out: &mut [u32])
 fn put_left(
     rule: &[u32],
     sizes: &[u16; 64],
+    shared: u64,
     k: usize,
     left: usize,
     place: usize,
@@ -45,7 +49,7 @@ fn put_left(
     x: Facts,
     out: &mut [u32],
 )
-    requires { ⌜ (k < capacity) × (16 ≤ length (now out)) × Deciding (now rule) (now sizes) left (place + 2) «set_at» («set_at» + 2) (drop 16 (now out)) ⌝ }
+    requires { ⌜ (k < capacity) × (16 ≤ length (now out)) × Deciding (now rule) (now sizes) shared false left (place + 2) «set_at» («set_at» + 2) (drop 16 (now out)) ⌝ }
     ensures { λ r. ⌜ now (out .exit) ≡ written (leftLines (tableIn (now (rule .entry))) k left place «set_at» (factsOf x)) (now (out .entry)) ⌝ }
 {
     let y = learn_prior(x, k, false, true);
@@ -60,6 +64,8 @@ fn put_left(
     put_decision(
         rule,
         sizes,
+        shared,
+        false,
         left,
         place + 2,
         set_at,
@@ -70,8 +76,16 @@ fn put_left(
 }
 
 // A since node's code from there on.
-fn put_since_end(rule: &[u32], sizes: &[u16; 64], k: usize, place: usize, x: Facts, out: &mut [u32])
-    requires { ⌜ Ending (now rule) (now sizes) k place (now out) ⌝ }
+fn put_since_end(
+    rule: &[u32],
+    sizes: &[u16; 64],
+    shared: u64,
+    k: usize,
+    place: usize,
+    x: Facts,
+    out: &mut [u32],
+)
+    requires { ⌜ Ending (now rule) (now sizes) shared k place (now out) ⌝ }
     ensures { λ r. ⌜ now (out .exit) ≡ written (sinceEnd (tableIn (now (rule .entry))) k (leftIn (now (rule .entry)) k) (rightIn (now (rule .entry)) k) place (factsOf x)) (now (out .entry)) ⌝ }
 {
     let word = rule[k];
@@ -80,7 +94,7 @@ fn put_since_end(rule: &[u32], sizes: &[u16; 64], k: usize, place: usize, x: Fac
     let l = sizes[left] as usize;
     let set_at = place + 2 + l;
     let y = learn_value(x, right, false, true);
-    put_left(rule, sizes, k, left, place, set_at, y, out);
+    put_left(rule, sizes, shared, k, left, place, set_at, y, out);
     put_setting(k, k, set_at, x, &mut out[8 * (2 + l)..]);
 }
 
@@ -88,12 +102,13 @@ fn put_since_end(rule: &[u32], sizes: &[u16; 64], k: usize, place: usize, x: Fac
 fn put_since(
     rule: &[u32],
     sizes: &[u16; 64],
+    shared: u64,
     k: usize,
     place: usize,
     x: Facts,
     out: &mut [u32],
 ) -> usize
-    requires { ⌜ Updating (now rule) (now sizes) k place (now out) × (field 29 3 (getD (now rule) k 0) ≡ 4) ⌝ }
+    requires { ⌜ Updating (now rule) (now sizes) shared k place (now out) × (field 29 3 (getD (now rule) k 0) ≡ 4) ⌝ }
     ensures { λ r. ⌜ (r ≡ updateSize (tableIn (now (rule .entry))) (nodeAt (tableIn (now (rule .entry))) k))
         × (now (out .exit) ≡ written (update (tableIn (now (rule .entry))) (nodeAt (tableIn (now (rule .entry))) k) k place (factsOf x)) (now (out .entry))) ⌝ }
 {
@@ -103,8 +118,19 @@ fn put_since(
     let r = sizes[right] as usize;
     let l = sizes[left] as usize;
     let test_at = place + r;
-    put_decision(rule, sizes, right, place, test_at + 2 + l, test_at, x, out);
-    put_since_end(rule, sizes, k, test_at, x, &mut out[8 * r..]);
+    put_decision(
+        rule,
+        sizes,
+        shared,
+        false,
+        right,
+        place,
+        test_at + 2 + l,
+        test_at,
+        x,
+        out,
+    );
+    put_since_end(rule, sizes, shared, k, test_at, x, &mut out[8 * r..]);
     r + 2 + l + 3
 }
 
@@ -112,40 +138,106 @@ fn put_since(
 fn put_weak_previous(
     rule: &[u32],
     sizes: &[u16; 64],
+    shared: u64,
     k: usize,
     place: usize,
     x: Facts,
     out: &mut [u32],
 ) -> usize
-    requires { ⌜ Updating (now rule) (now sizes) k place (now out) × (field 29 3 (getD (now rule) k 0) ≡ 5) ⌝ }
+    requires { ⌜ Updating (now rule) (now sizes) shared k place (now out) × (field 29 3 (getD (now rule) k 0) ≡ 5) ⌝ }
     ensures { λ r. ⌜ (r ≡ updateSize (tableIn (now (rule .entry))) (nodeAt (tableIn (now (rule .entry))) k))
         × (now (out .exit) ≡ written (update (tableIn (now (rule .entry))) (nodeAt (tableIn (now (rule .entry))) k) k place (factsOf x)) (now (out .entry))) ⌝ }
 {
     let left = (rule[k] / 64 % 32) as usize;
     let l = sizes[left] as usize;
     let set_at = place + l;
-    put_decision(rule, sizes, left, place, set_at, set_at + 2, x, out);
+    put_decision(
+        rule,
+        sizes,
+        shared,
+        false,
+        left,
+        place,
+        set_at,
+        set_at + 2,
+        x,
+        out,
+    );
     put_setting(k, left, set_at, x, &mut out[8 * l..]);
     l + 3
 }
 
-// Node k's code: none but for past nodes.
-pub(crate) fn put_update(
+// A past node's code; none for other nodes.
+fn put_update(
     rule: &[u32],
     sizes: &[u16; 64],
+    shared: u64,
     k: usize,
     place: usize,
     x: Facts,
     out: &mut [u32],
 ) -> usize
-    requires { ⌜ Updating (now rule) (now sizes) k place (now out) ⌝ }
+    requires { ⌜ Updating (now rule) (now sizes) shared k place (now out) ⌝ }
     ensures { λ r. ⌜ (r ≡ updateSize (tableIn (now (rule .entry))) (nodeAt (tableIn (now (rule .entry))) k))
         × (now (out .exit) ≡ written (update (tableIn (now (rule .entry))) (nodeAt (tableIn (now (rule .entry))) k) k place (factsOf x)) (now (out .entry))) ⌝ }
 {
     let kind = rule[k] / 536870912 % 8;
     match kind {
-        4 => put_since(rule, sizes, k, place, x, out),
-        5 => put_weak_previous(rule, sizes, k, place, x, out),
+        4 => put_since(rule, sizes, shared, k, place, x, out),
+        5 => put_weak_previous(rule, sizes, shared, k, place, x, out),
         _ => 0,
+    }
+}
+
+// A shared node's code: it is decided by what it is.
+fn put_shared(
+    rule: &[u32],
+    sizes: &[u16; 64],
+    shared: u64,
+    k: usize,
+    place: usize,
+    x: Facts,
+    out: &mut [u32],
+) -> usize
+    requires { ⌜ Working (now rule) (now sizes) shared k place (now out) × (isShared (tableIn (now rule)) k ≡ true) ⌝ }
+    ensures { λ r. ⌜ (r ≡ workSize (tableIn (now (rule .entry))) k)
+        × (now (out .exit) ≡ written (workCode (tableIn (now (rule .entry))) k place (factsOf x)) (now (out .entry))) ⌝ }
+{
+    let n = node_size(sizes, rule[k]) as usize;
+    let set_at = place + n;
+    put_decision(
+        rule,
+        sizes,
+        shared,
+        true,
+        k,
+        place,
+        set_at,
+        set_at + 2,
+        x,
+        out,
+    );
+    put_setting(k, k, set_at, x, &mut out[8 * n..]);
+    n + 3
+}
+
+// Node k's code: none but for nodes with a work bit.
+pub(crate) fn put_work(
+    rule: &[u32],
+    sizes: &[u16; 64],
+    shared: u64,
+    k: usize,
+    place: usize,
+    x: Facts,
+    out: &mut [u32],
+) -> usize
+    requires { ⌜ Working (now rule) (now sizes) shared k place (now out) ⌝ }
+    ensures { λ r. ⌜ (r ≡ workSize (tableIn (now (rule .entry))) k)
+        × (now (out .exit) ≡ written (workCode (tableIn (now (rule .entry))) k place (factsOf x)) (now (out .entry))) ⌝ }
+{
+    if has(shared, k) {
+        put_shared(rule, sizes, shared, k, place, x, out)
+    } else {
+        put_update(rule, sizes, shared, k, place, x, out)
     }
 }

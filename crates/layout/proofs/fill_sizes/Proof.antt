@@ -6,31 +6,32 @@ use lib.ListN.{length, length-set}
 use native.Mathlib.Omega.{arith}
 use borrow.Author.Needs.{needs}
 use Rattle.layout.specs.Layout.{tableIn}
-use Rattle.layout.proofs.SizeLaws.{SizedTo, size-at, sized-next, nodes-few, node-few}
+use Rattle.layout.proofs.SizeLaws.{SizedTo, own-at, size-at, sized-next, nodes-few, own-few}
 use Rattle.layout.proofs.fill_sizes.Statement.{statement}
 use Rattle.layout.proofs.fill_sizes.Tie as tie
 
 abbrev Inv-loop : tie.InvT-loop
-Inv-loop rule sizes₀ k₀ sizes k = (k ≤ length rule) × (length rule ≤ 32) × (length sizes ≡ length sizes₀) × SizedTo (tableIn rule) sizes k
+Inv-loop rule shared sizes₀ k₀ sizes k = (k ≤ length rule) × (length rule ≤ 32) × (length sizes ≡ length sizes₀) × SizedTo (tableIn rule) sizes k
 
 abbrev μ-loop : tie.MeasureT-loop
-μ-loop rule sizes₀ k₀ sizes k = length rule - k
+μ-loop rule shared sizes₀ k₀ sizes k = length rule - k
 
 loop-holds : tie.Need-loop-holds Inv-loop μ-loop
-loop-holds c = (search needs, nodes-few (c .before .before .args .rule .now) (c .before .before .pre .0), refl, λ j l. absurd (omega arith))
+loop-holds c = let s = c .before .before in
+    (search needs, nodes-few (s .args .rule .now) (s .pre .0), refl, λ j l. absurd (omega arith))
 
-mul-node-size : tie.Need-mul-node-size Inv-loop μ-loop
-mul-node-size c = search needs
+mul-mention-size : tie.Need-mul-mention-size Inv-loop μ-loop
+mul-mention-size c = search needs
 
-shared-slice-read-node-size : tie.Need-shared-slice-read-node-size Inv-loop μ-loop
-shared-slice-read-node-size c = search needs
+shared-slice-read-mention-size : tie.Need-shared-slice-read-mention-size Inv-loop μ-loop
+shared-slice-read-mention-size c = search needs
 
-node-size-requires : tie.Need-node-size-requires Inv-loop μ-loop
-node-size-requires c κs = let start = c .before .before .before .before .before .before in
+mention-size-requires : tie.Need-mention-size-requires Inv-loop μ-loop
+mention-size-requires c κs = let start = c .before .before .before .before .before .before in
     let rule = start .args .rule .now in
     let l = c .before .before .before .loop in
-    let size = size-at rule (l .sizes) (l .k) (start .pre .0) (l .inv .3) in
-    let few = node-few rule (start .pre .0) (l .k) (c .before .before .loop-test .taken) in
+    let size = own-at rule (l .sizes) (l .k) (start .pre .0) (l .inv .3) in
+    let few = own-few rule (start .pre .0) (l .k) (c .before .before .loop-test .taken) in
     (omega arith, omega arith)
 
 mul-sizes : tie.Need-mul-sizes Inv-loop μ-loop
@@ -50,11 +51,12 @@ loop-again c = let start = c .before .before .before .before .before .before .be
     let rule = start .args .rule .now in
     let l = c .before .before .before .before .loop in
     let inside : l .k < length (l .sizes) = omega arith in
-    let size = c .node-size .ensures ∙ size-at rule (l .sizes) (l .k) (start .pre .0) (l .inv .3) in (
+    let size = c .mention-size .ensures
+    ∙ size-at rule (l .sizes) (l .k) _ (start .pre .0) (l .inv .3) (start .pre .1) in (
       search needs,
       search needs,
-      length-set (l .sizes) (l .k) (c .node-size .result) ∙ l .inv .2,
-      sized-next (tableIn rule) (l .sizes) (l .k) (c .node-size .result) inside size (l .inv .3),
+      length-set (l .sizes) (l .k) (c .mention-size .result) ∙ l .inv .2,
+      sized-next (tableIn rule) (l .sizes) (l .k) (c .mention-size .result) inside size (l .inv .3),
     )
 
 same-length : tie.Need-same-length Inv-loop μ-loop
@@ -70,9 +72,9 @@ fill-sizes-spec =
     Inv-loop
     μ-loop
     loop-holds
-    mul-node-size
-    shared-slice-read-node-size
-    node-size-requires
+    mul-mention-size
+    shared-slice-read-mention-size
+    mention-size-requires
     mul-sizes
     slice-write-sizes
     add-k

@@ -23,7 +23,14 @@ is-present-requires : tie.Need-is-present-requires
 is-present-requires c κs = search needs
 
 put-block-requires : tie.Need-put-block-requires
-put-block-requires c κs = (woven-block (c .before .before .before .before .before .before .before .args .rule .now) (c .before .before .before .before .before .before .before .args .bare .now) (c .before .before .before .before .before .before .before .args .sizes .now) (c .before .before .before .before .before .before .before .args .starts .now) (c .before .before .before .before .before .before .before .args .size) (c .before .before .before .before .before .before .before .args .past) (c .before .before .before .before .before .before .before .pre .0) (c .before .before .before .before .before .before .before .args .l) (c .before .before .before .before .before .before .before .args .place) (c .before .before .before .before .before .before .before .args .out .now) (c .before .before .before .before .before .before .before .pre .1) (c .before .before .before .before .before .before .before .pre .2) (ap isPresent (code-at (c .before .before .before .before .before .before .before .args .bare .now) (c .before .before .before .before .before .before .before .args .l)) ∙ sym (c .before .before .is-present .ensures) ∙ c .before .if1 .taken) (c .before .before .before .before .before .before .before .pre .3), c .before .before .before .before .before .before .before .pre .0 .started .blockIs, c .before .before .before .before .before .before .before .pre .0 .pastIs)
+put-block-requires c κs = let s = c .before .before .before .before .before .before .before in (
+  woven-block (s .args .rule .now) (s .args .bare .now) (s .args .sizes .now) (s .args .starts .now) (s .args .size) (s .args .shared)
+      (s .args .past) (s .pre .0) (s .args .l) (s .args .place) (s .args .out .now) (s .pre .1) (s .pre .2) (ap isPresent (code-at
+      (s .args .bare .now) (s .args .l)) ∙ sym (c .before .before .is-present .ensures) ∙ c .before .if1 .taken)
+      (s .pre .3),
+  s .pre .0 .started .blockIs,
+  s .pre .0 .pastIs,
+)
 
 moved-word-requires : tie.Need-moved-word-requires
 moved-word-requires c κs = search needs
@@ -32,28 +39,38 @@ noted-requires : tie.Need-noted-requires
 noted-requires c κs = search needs
 
 put-line-requires : tie.Need-put-line-requires
-put-line-requires c κs = woven-line (c .before .before .before .before .before .before .before .before .before .args .rule .now) (c .before .before .before .before .before .before .before .before .before .args .bare .now) (c .before .before .before .before .before .before .before .before .before .args .sizes .now) (c .before .before .before .before .before .before .before .before .before .args .starts .now) (c .before .before .before .before .before .before .before .before .before .args .size) (c .before .before .before .before .before .before .before .before .before .args .past) (c .before .before .before .before .before .before .before .before .before .pre .0) (c .before .before .before .before .before .before .before .before .before .args .l) (c .before .before .before .before .before .before .before .before .before .args .out .now) (c .before .before .before .before .before .before .before .before .before .pre .3) (ap isPresent (code-at (c .before .before .before .before .before .before .before .before .before .args .bare .now) (c .before .before .before .before .before .before .before .before .before .args .l)) ∙ sym (c .before .before .before .before .is-present .ensures) ∙ c .before .before .before .if1 .left)
+put-line-requires c κs = let s = c .before .before .before .before .before .before .before .before .before in
+    woven-line (s .args .rule .now) (s .args .bare .now) (s .args .sizes .now) (s .args .starts .now) (s .args .size) (s .args .shared)
+    (s .args .past) (s .pre .0) (s .args .l) (s .args .out .now) (s .pre .3) (ap isPresent (code-at (s .args .bare .now) (s .args .l)) ∙ sym
+    (c .before .before .before .before .is-present .ensures) ∙ c .before .before .before .if1 .left)
 
 same-length : tie.Need-same-length
 same-length c = search needs
 
 returns : tie.Need-returns
-returns c = let a = c .before .before .before .before .before .before .before .before .before .before .args in
-    let p = present-line (tableIn (a .rule .now)) (bareCode (a .bare .now)) (a .place) (instructionAt (bareCode (a .bare .now)) (a .l)) (ap isPresent (code-at (c .before .before .before .before .before .before .before .before .before .before .args .bare .now) (c .before .before .before .before .before .before .before .before .before .before .args .l)) ∙ sym (c .before .before .before .before .before .is-present .ensures) ∙ c .before .before .before .before .if1 .taken) in
-    (c .before .before .before .before .before .before .before .before .before .before .pre .0 .started .blockIs ∙ p .0, c .before .before .put-block .ensures ∙ ap (λ ls. written ls (a .out .now)) (p .1))
+returns c = let s = c .before .before .before .before .before .before .before .before .before .before in
+    let a = s .args in
+    let p = present-line (tableIn (a .rule .now)) (bareCode (a .bare .now)) (a .place) (instructionAt (bareCode (a .bare .now)) (a .l))
+    (ap isPresent (code-at (s .args .bare .now) (s .args .l)) ∙ sym
+    (c .before .before .before .before .before .is-present .ensures) ∙ c .before .before .before .before .if1 .taken) in
+    (s .pre .0 .started .blockIs ∙ p .0, c .before .before .put-block .ensures ∙ ap (λ ls. written ls (a .out .now)) (p .1))
 
 same-length-2 : tie.Need-same-length-2
 same-length-2 c = search needs
 
 returns-2 : tie.Need-returns-2
-returns-2 c = let a = c .before .before .before .before .before .before .before .before .before .before .before .before .args in
+returns-2 c = let s = c .before .before .before .before .before .before .before .before .before .before .before .before in
+    let a = s .args in
     let t = tableIn (a .rule .now) in
     let code = bareCode (a .bare .now) in
-    let p = other-line t code (a .place) (instructionAt code (a .l)) (ap isPresent (code-at (c .before .before .before .before .before .before .before .before .before .before .before .before .args .bare .now) (c .before .before .before .before .before .before .before .before .before .before .before .before .args .l)) ∙ sym (c .before .before .before .before .before .before .before .is-present .ensures) ∙ c .before .before .before .before .before .before .if1 .left) in
+    let p = other-line t code (a .place) (instructionAt code (a .l)) (ap isPresent (code-at (s .args .bare .now) (s .args .l)) ∙ sym
+    (c .before .before .before .before .before .before .before .is-present .ensures) ∙ c .before .before .before .before .before .before .if1 .left) in
     let i = retarget (startOf t code) (instructionAt code (a .l)) in (
       p .0,
       c .before .before .put-line .ensures
-          ∙ one-line _ i (bareFacts t) _ (a .out .now) (c .before .before .before .before .before .moved-word .ensures ∙ ap (λ x. wordFor (retarget (startOf t code) x)) (sym (code-at (a .bare .now) (a .l)))) (c .before .before .before .before .noted .ensures ∙ bare-noted t (a .past) (c .before .before .before .before .before .before .before .before .before .before .before .before .pre .0 .pastIs))
+          ∙ one-line _ i (bareFacts t) _ (a .out .now) (c .before .before .before .before .before .moved-word .ensures ∙ ap (λ x. wordFor
+          (retarget (startOf t code) x)) (sym (code-at (a .bare .now) (a .l)))) (c .before .before .before .before .noted .ensures ∙ bare-noted t
+          (a .past) (s .pre .0 .pastIs))
           ∙ ap (λ ls. written ls (a .out .now)) (p .1),
     )
 

@@ -32,7 +32,7 @@ add-code : tie.Need-add-code
 add-code c = search needs
 
 code-requires : tie.Need-code-requires
-code-requires c κs = let s = deciding-some _ _ _ _ _ _ _ (c .before .before .before .pre .2) in let i = c .before .before .before .pre .2 .inScript in let k = c .before .before .before .pre .0 in (omega arith, omega arith, omega arith, omega arith)
+code-requires c κs = let s = deciding-some _ _ _ _ _ _ _ _ (c .before .before .before .pre .2) in let i = c .before .before .before .pre .2 .inScript in let k = c .before .before .before .pre .0 in (omega arith, omega arith, omega arith, omega arith)
 
 add-code-2 : tie.Need-add-code-2
 add-code-2 c = search needs
@@ -62,7 +62,7 @@ part-put-decision-end : tie.Need-part-put-decision-end
 part-put-decision-end c = search needs
 
 put-decision-requires : tie.Need-put-decision-requires
-put-decision-requires c κs = deciding-in _ _ _ _ _ _ _ _ (part-of 16 (c .before .before .before .before .put-two .last .1 .1 .1 .1 .0) (c .before .before .before .before .before .before .before .before .before .before .before .args .out .now) (c .before .before .before .before .put-two .kept .1 .1 .1 .1 .0) ∙ sym (length-drop 16 (c .before .before .before .before .before .before .before .before .before .before .before .args .out .now))) (c .before .before .before .before .before .before .before .before .before .before .before .pre .2)
+put-decision-requires c κs = deciding-in _ _ _ _ _ _ _ _ _ (part-of 16 (c .before .before .before .before .put-two .last .1 .1 .1 .1 .0) (c .before .before .before .before .before .before .before .before .before .before .before .args .out .now) (c .before .before .before .before .put-two .kept .1 .1 .1 .1 .0) ∙ sym (length-drop 16 (c .before .before .before .before .before .before .before .before .before .before .before .args .out .now))) (c .before .before .before .before .before .before .before .before .before .before .before .pre .2)
 
 same-length : tie.Need-same-length
 same-length c = search needs

@@ -37,7 +37,7 @@ element-copy-out-r : tie.Need-element-copy-out-r
 element-copy-out-r c = search needs
 
 cast-r : tie.Need-cast-r
-cast-r c = let z = (since-size (c .before .before .before .before .args .rule .now) (c .before .before .before .before .args .sizes .now) (c .before .before .before .before .args .k) (c .before .before .before .before .args .place) (c .before .before .before .before .args .out .now) (c .before .before .before .before .pre .0) (c .before .before .before .before .pre .1)) in let i = c .before .before .before .before .pre .0 .inScript in let o = c .before .before .before .before .pre .0 .inOutput in let l = (left-size (c .before .before .before .before .args .rule .now) (c .before .before .before .before .args .sizes .now) (c .before .before .before .before .args .k) (c .before .before .before .before .args .place) (c .before .before .before .before .args .out .now) (c .before .before .before .before .pre .0) (c .before .before .before .before .pre .1)) in let r = (right-size (c .before .before .before .before .args .rule .now) (c .before .before .before .before .args .sizes .now) (c .before .before .before .before .args .k) (c .before .before .before .before .args .place) (c .before .before .before .before .args .out .now) (c .before .before .before .before .pre .0) (c .before .before .before .before .pre .1)) in omega arith
+cast-r c = let z = (since-size (c .before .before .before .before .args .rule .now) (c .before .before .before .before .args .sizes .now) (c .before .before .before .before .args .shared) (c .before .before .before .before .args .k) (c .before .before .before .before .args .place) (c .before .before .before .before .args .out .now) (c .before .before .before .before .pre .0) (c .before .before .before .before .pre .1)) in let i = c .before .before .before .before .pre .0 .inScript in let o = c .before .before .before .before .pre .0 .inOutput in let l = (left-size (c .before .before .before .before .args .rule .now) (c .before .before .before .before .args .sizes .now) (c .before .before .before .before .args .shared) (c .before .before .before .before .args .k) (c .before .before .before .before .args .place) (c .before .before .before .before .args .out .now) (c .before .before .before .before .pre .0) (c .before .before .before .before .pre .1)) in let r = (right-size (c .before .before .before .before .args .rule .now) (c .before .before .before .before .args .sizes .now) (c .before .before .before .before .args .shared) (c .before .before .before .before .args .k) (c .before .before .before .before .args .place) (c .before .before .before .before .args .out .now) (c .before .before .before .before .pre .0) (c .before .before .before .before .pre .1)) in omega arith
 
 mul-l : tie.Need-mul-l
 mul-l c = search needs
@@ -46,46 +46,46 @@ element-copy-out-l : tie.Need-element-copy-out-l
 element-copy-out-l c = search needs
 
 cast-l : tie.Need-cast-l
-cast-l c = let z = (since-size (c .before .before .before .before .before .args .rule .now) (c .before .before .before .before .before .args .sizes .now) (c .before .before .before .before .before .args .k) (c .before .before .before .before .before .args .place) (c .before .before .before .before .before .args .out .now) (c .before .before .before .before .before .pre .0) (c .before .before .before .before .before .pre .1)) in let i = c .before .before .before .before .before .pre .0 .inScript in let o = c .before .before .before .before .before .pre .0 .inOutput in let l = (left-size (c .before .before .before .before .before .args .rule .now) (c .before .before .before .before .before .args .sizes .now) (c .before .before .before .before .before .args .k) (c .before .before .before .before .before .args .place) (c .before .before .before .before .before .args .out .now) (c .before .before .before .before .before .pre .0) (c .before .before .before .before .before .pre .1)) in let r = (right-size (c .before .before .before .before .before .args .rule .now) (c .before .before .before .before .before .args .sizes .now) (c .before .before .before .before .before .args .k) (c .before .before .before .before .before .args .place) (c .before .before .before .before .before .args .out .now) (c .before .before .before .before .before .pre .0) (c .before .before .before .before .before .pre .1)) in omega arith
+cast-l c = let z = (since-size (c .before .before .before .before .before .args .rule .now) (c .before .before .before .before .before .args .sizes .now) (c .before .before .before .before .before .args .shared) (c .before .before .before .before .before .args .k) (c .before .before .before .before .before .args .place) (c .before .before .before .before .before .args .out .now) (c .before .before .before .before .before .pre .0) (c .before .before .before .before .before .pre .1)) in let i = c .before .before .before .before .before .pre .0 .inScript in let o = c .before .before .before .before .before .pre .0 .inOutput in let l = (left-size (c .before .before .before .before .before .args .rule .now) (c .before .before .before .before .before .args .sizes .now) (c .before .before .before .before .before .args .shared) (c .before .before .before .before .before .args .k) (c .before .before .before .before .before .args .place) (c .before .before .before .before .before .args .out .now) (c .before .before .before .before .before .pre .0) (c .before .before .before .before .before .pre .1)) in let r = (right-size (c .before .before .before .before .before .args .rule .now) (c .before .before .before .before .before .args .sizes .now) (c .before .before .before .before .before .args .shared) (c .before .before .before .before .before .args .k) (c .before .before .before .before .before .args .place) (c .before .before .before .before .before .args .out .now) (c .before .before .before .before .before .pre .0) (c .before .before .before .before .before .pre .1)) in omega arith
 
 add-test-at : tie.Need-add-test-at
-add-test-at c = let z = (since-size (c .before .before .before .before .before .args .rule .now) (c .before .before .before .before .before .args .sizes .now) (c .before .before .before .before .before .args .k) (c .before .before .before .before .before .args .place) (c .before .before .before .before .before .args .out .now) (c .before .before .before .before .before .pre .0) (c .before .before .before .before .before .pre .1)) in let i = c .before .before .before .before .before .pre .0 .inScript in let o = c .before .before .before .before .before .pre .0 .inOutput in let l = (left-size (c .before .before .before .before .before .args .rule .now) (c .before .before .before .before .before .args .sizes .now) (c .before .before .before .before .before .args .k) (c .before .before .before .before .before .args .place) (c .before .before .before .before .before .args .out .now) (c .before .before .before .before .before .pre .0) (c .before .before .before .before .before .pre .1)) in let r = (right-size (c .before .before .before .before .before .args .rule .now) (c .before .before .before .before .before .args .sizes .now) (c .before .before .before .before .before .args .k) (c .before .before .before .before .before .args .place) (c .before .before .before .before .before .args .out .now) (c .before .before .before .before .before .pre .0) (c .before .before .before .before .before .pre .1)) in omega arith
+add-test-at c = let z = (since-size (c .before .before .before .before .before .args .rule .now) (c .before .before .before .before .before .args .sizes .now) (c .before .before .before .before .before .args .shared) (c .before .before .before .before .before .args .k) (c .before .before .before .before .before .args .place) (c .before .before .before .before .before .args .out .now) (c .before .before .before .before .before .pre .0) (c .before .before .before .before .before .pre .1)) in let i = c .before .before .before .before .before .pre .0 .inScript in let o = c .before .before .before .before .before .pre .0 .inOutput in let l = (left-size (c .before .before .before .before .before .args .rule .now) (c .before .before .before .before .before .args .sizes .now) (c .before .before .before .before .before .args .shared) (c .before .before .before .before .before .args .k) (c .before .before .before .before .before .args .place) (c .before .before .before .before .before .args .out .now) (c .before .before .before .before .before .pre .0) (c .before .before .before .before .before .pre .1)) in let r = (right-size (c .before .before .before .before .before .args .rule .now) (c .before .before .before .before .before .args .sizes .now) (c .before .before .before .before .before .args .shared) (c .before .before .before .before .before .args .k) (c .before .before .before .before .before .args .place) (c .before .before .before .before .before .args .out .now) (c .before .before .before .before .before .pre .0) (c .before .before .before .before .before .pre .1)) in omega arith
 
 add-put-decision : tie.Need-add-put-decision
-add-put-decision c = let z = (since-size (c .before .before .before .before .before .args .rule .now) (c .before .before .before .before .before .args .sizes .now) (c .before .before .before .before .before .args .k) (c .before .before .before .before .before .args .place) (c .before .before .before .before .before .args .out .now) (c .before .before .before .before .before .pre .0) (c .before .before .before .before .before .pre .1)) in let i = c .before .before .before .before .before .pre .0 .inScript in let o = c .before .before .before .before .before .pre .0 .inOutput in let l = (left-size (c .before .before .before .before .before .args .rule .now) (c .before .before .before .before .before .args .sizes .now) (c .before .before .before .before .before .args .k) (c .before .before .before .before .before .args .place) (c .before .before .before .before .before .args .out .now) (c .before .before .before .before .before .pre .0) (c .before .before .before .before .before .pre .1)) in let r = (right-size (c .before .before .before .before .before .args .rule .now) (c .before .before .before .before .before .args .sizes .now) (c .before .before .before .before .before .args .k) (c .before .before .before .before .before .args .place) (c .before .before .before .before .before .args .out .now) (c .before .before .before .before .before .pre .0) (c .before .before .before .before .before .pre .1)) in omega arith
+add-put-decision c = let z = (since-size (c .before .before .before .before .before .args .rule .now) (c .before .before .before .before .before .args .sizes .now) (c .before .before .before .before .before .args .shared) (c .before .before .before .before .before .args .k) (c .before .before .before .before .before .args .place) (c .before .before .before .before .before .args .out .now) (c .before .before .before .before .before .pre .0) (c .before .before .before .before .before .pre .1)) in let i = c .before .before .before .before .before .pre .0 .inScript in let o = c .before .before .before .before .before .pre .0 .inOutput in let l = (left-size (c .before .before .before .before .before .args .rule .now) (c .before .before .before .before .before .args .sizes .now) (c .before .before .before .before .before .args .shared) (c .before .before .before .before .before .args .k) (c .before .before .before .before .before .args .place) (c .before .before .before .before .before .args .out .now) (c .before .before .before .before .before .pre .0) (c .before .before .before .before .before .pre .1)) in let r = (right-size (c .before .before .before .before .before .args .rule .now) (c .before .before .before .before .before .args .sizes .now) (c .before .before .before .before .before .args .shared) (c .before .before .before .before .before .args .k) (c .before .before .before .before .before .args .place) (c .before .before .before .before .before .args .out .now) (c .before .before .before .before .before .pre .0) (c .before .before .before .before .before .pre .1)) in omega arith
 
 add-put-decision-2 : tie.Need-add-put-decision-2
-add-put-decision-2 c = let z = (since-size (c .before .before .before .before .before .args .rule .now) (c .before .before .before .before .before .args .sizes .now) (c .before .before .before .before .before .args .k) (c .before .before .before .before .before .args .place) (c .before .before .before .before .before .args .out .now) (c .before .before .before .before .before .pre .0) (c .before .before .before .before .before .pre .1)) in let i = c .before .before .before .before .before .pre .0 .inScript in let o = c .before .before .before .before .before .pre .0 .inOutput in let l = (left-size (c .before .before .before .before .before .args .rule .now) (c .before .before .before .before .before .args .sizes .now) (c .before .before .before .before .before .args .k) (c .before .before .before .before .before .args .place) (c .before .before .before .before .before .args .out .now) (c .before .before .before .before .before .pre .0) (c .before .before .before .before .before .pre .1)) in let r = (right-size (c .before .before .before .before .before .args .rule .now) (c .before .before .before .before .before .args .sizes .now) (c .before .before .before .before .before .args .k) (c .before .before .before .before .before .args .place) (c .before .before .before .before .before .args .out .now) (c .before .before .before .before .before .pre .0) (c .before .before .before .before .before .pre .1)) in omega arith
+add-put-decision-2 c = let z = (since-size (c .before .before .before .before .before .args .rule .now) (c .before .before .before .before .before .args .sizes .now) (c .before .before .before .before .before .args .shared) (c .before .before .before .before .before .args .k) (c .before .before .before .before .before .args .place) (c .before .before .before .before .before .args .out .now) (c .before .before .before .before .before .pre .0) (c .before .before .before .before .before .pre .1)) in let i = c .before .before .before .before .before .pre .0 .inScript in let o = c .before .before .before .before .before .pre .0 .inOutput in let l = (left-size (c .before .before .before .before .before .args .rule .now) (c .before .before .before .before .before .args .sizes .now) (c .before .before .before .before .before .args .shared) (c .before .before .before .before .before .args .k) (c .before .before .before .before .before .args .place) (c .before .before .before .before .before .args .out .now) (c .before .before .before .before .before .pre .0) (c .before .before .before .before .before .pre .1)) in let r = (right-size (c .before .before .before .before .before .args .rule .now) (c .before .before .before .before .before .args .sizes .now) (c .before .before .before .before .before .args .shared) (c .before .before .before .before .before .args .k) (c .before .before .before .before .before .args .place) (c .before .before .before .before .before .args .out .now) (c .before .before .before .before .before .pre .0) (c .before .before .before .before .before .pre .1)) in omega arith
 
 put-decision-requires : tie.Need-put-decision-requires
-put-decision-requires c κs = (since-right (c .before .before .before .before .before .before .args .rule .now) (c .before .before .before .before .before .before .args .sizes .now) (c .before .before .before .before .before .before .args .k) (c .before .before .before .before .before .before .args .place) (c .before .before .before .before .before .before .args .out .now) (c .before .before .before .before .before .before .pre .0) (c .before .before .before .before .before .before .pre .1))
+put-decision-requires c κs = (since-right (c .before .before .before .before .before .before .args .rule .now) (c .before .before .before .before .before .before .args .sizes .now) (c .before .before .before .before .before .before .args .shared) (c .before .before .before .before .before .before .args .k) (c .before .before .before .before .before .before .args .place) (c .before .before .before .before .before .before .args .out .now) (c .before .before .before .before .before .before .pre .0) (c .before .before .before .before .before .before .pre .1))
 
 mul-put-since-end : tie.Need-mul-put-since-end
-mul-put-since-end c = let z = (since-size (c .before .before .before .before .before .before .before .before .before .args .rule .now) (c .before .before .before .before .before .before .before .before .before .args .sizes .now) (c .before .before .before .before .before .before .before .before .before .args .k) (c .before .before .before .before .before .before .before .before .before .args .place) (c .before .before .before .before .before .before .before .before .before .args .out .now) (c .before .before .before .before .before .before .before .before .before .pre .0) (c .before .before .before .before .before .before .before .before .before .pre .1)) in let i = c .before .before .before .before .before .before .before .before .before .pre .0 .inScript in let o = c .before .before .before .before .before .before .before .before .before .pre .0 .inOutput in let l = (left-size (c .before .before .before .before .before .before .before .before .before .args .rule .now) (c .before .before .before .before .before .before .before .before .before .args .sizes .now) (c .before .before .before .before .before .before .before .before .before .args .k) (c .before .before .before .before .before .before .before .before .before .args .place) (c .before .before .before .before .before .before .before .before .before .args .out .now) (c .before .before .before .before .before .before .before .before .before .pre .0) (c .before .before .before .before .before .before .before .before .before .pre .1)) in let r = (right-size (c .before .before .before .before .before .before .before .before .before .args .rule .now) (c .before .before .before .before .before .before .before .before .before .args .sizes .now) (c .before .before .before .before .before .before .before .before .before .args .k) (c .before .before .before .before .before .before .before .before .before .args .place) (c .before .before .before .before .before .before .before .before .before .args .out .now) (c .before .before .before .before .before .before .before .before .before .pre .0) (c .before .before .before .before .before .before .before .before .before .pre .1)) in omega arith
+mul-put-since-end c = let z = (since-size (c .before .before .before .before .before .before .before .before .before .args .rule .now) (c .before .before .before .before .before .before .before .before .before .args .sizes .now) (c .before .before .before .before .before .before .before .before .before .args .shared) (c .before .before .before .before .before .before .before .before .before .args .k) (c .before .before .before .before .before .before .before .before .before .args .place) (c .before .before .before .before .before .before .before .before .before .args .out .now) (c .before .before .before .before .before .before .before .before .before .pre .0) (c .before .before .before .before .before .before .before .before .before .pre .1)) in let i = c .before .before .before .before .before .before .before .before .before .pre .0 .inScript in let o = c .before .before .before .before .before .before .before .before .before .pre .0 .inOutput in let l = (left-size (c .before .before .before .before .before .before .before .before .before .args .rule .now) (c .before .before .before .before .before .before .before .before .before .args .sizes .now) (c .before .before .before .before .before .before .before .before .before .args .shared) (c .before .before .before .before .before .before .before .before .before .args .k) (c .before .before .before .before .before .before .before .before .before .args .place) (c .before .before .before .before .before .before .before .before .before .args .out .now) (c .before .before .before .before .before .before .before .before .before .pre .0) (c .before .before .before .before .before .before .before .before .before .pre .1)) in let r = (right-size (c .before .before .before .before .before .before .before .before .before .args .rule .now) (c .before .before .before .before .before .before .before .before .before .args .sizes .now) (c .before .before .before .before .before .before .before .before .before .args .shared) (c .before .before .before .before .before .before .before .before .before .args .k) (c .before .before .before .before .before .before .before .before .before .args .place) (c .before .before .before .before .before .before .before .before .before .args .out .now) (c .before .before .before .before .before .before .before .before .before .pre .0) (c .before .before .before .before .before .before .before .before .before .pre .1)) in omega arith
 
 mul-put-since-end-2 : tie.Need-mul-put-since-end-2
-mul-put-since-end-2 c = let z = (since-size (c .before .before .before .before .before .before .before .before .before .args .rule .now) (c .before .before .before .before .before .before .before .before .before .args .sizes .now) (c .before .before .before .before .before .before .before .before .before .args .k) (c .before .before .before .before .before .before .before .before .before .args .place) (c .before .before .before .before .before .before .before .before .before .args .out .now) (c .before .before .before .before .before .before .before .before .before .pre .0) (c .before .before .before .before .before .before .before .before .before .pre .1)) in let i = c .before .before .before .before .before .before .before .before .before .pre .0 .inScript in let o = c .before .before .before .before .before .before .before .before .before .pre .0 .inOutput in let l = (left-size (c .before .before .before .before .before .before .before .before .before .args .rule .now) (c .before .before .before .before .before .before .before .before .before .args .sizes .now) (c .before .before .before .before .before .before .before .before .before .args .k) (c .before .before .before .before .before .before .before .before .before .args .place) (c .before .before .before .before .before .before .before .before .before .args .out .now) (c .before .before .before .before .before .before .before .before .before .pre .0) (c .before .before .before .before .before .before .before .before .before .pre .1)) in let r = (right-size (c .before .before .before .before .before .before .before .before .before .args .rule .now) (c .before .before .before .before .before .before .before .before .before .args .sizes .now) (c .before .before .before .before .before .before .before .before .before .args .k) (c .before .before .before .before .before .before .before .before .before .args .place) (c .before .before .before .before .before .before .before .before .before .args .out .now) (c .before .before .before .before .before .before .before .before .before .pre .0) (c .before .before .before .before .before .before .before .before .before .pre .1)) in omega arith
+mul-put-since-end-2 c = let z = (since-size (c .before .before .before .before .before .before .before .before .before .args .rule .now) (c .before .before .before .before .before .before .before .before .before .args .sizes .now) (c .before .before .before .before .before .before .before .before .before .args .shared) (c .before .before .before .before .before .before .before .before .before .args .k) (c .before .before .before .before .before .before .before .before .before .args .place) (c .before .before .before .before .before .before .before .before .before .args .out .now) (c .before .before .before .before .before .before .before .before .before .pre .0) (c .before .before .before .before .before .before .before .before .before .pre .1)) in let i = c .before .before .before .before .before .before .before .before .before .pre .0 .inScript in let o = c .before .before .before .before .before .before .before .before .before .pre .0 .inOutput in let l = (left-size (c .before .before .before .before .before .before .before .before .before .args .rule .now) (c .before .before .before .before .before .before .before .before .before .args .sizes .now) (c .before .before .before .before .before .before .before .before .before .args .shared) (c .before .before .before .before .before .before .before .before .before .args .k) (c .before .before .before .before .before .before .before .before .before .args .place) (c .before .before .before .before .before .before .before .before .before .args .out .now) (c .before .before .before .before .before .before .before .before .before .pre .0) (c .before .before .before .before .before .before .before .before .before .pre .1)) in let r = (right-size (c .before .before .before .before .before .before .before .before .before .args .rule .now) (c .before .before .before .before .before .before .before .before .before .args .sizes .now) (c .before .before .before .before .before .before .before .before .before .args .shared) (c .before .before .before .before .before .before .before .before .before .args .k) (c .before .before .before .before .before .before .before .before .before .args .place) (c .before .before .before .before .before .before .before .before .before .args .out .now) (c .before .before .before .before .before .before .before .before .before .pre .0) (c .before .before .before .before .before .before .before .before .before .pre .1)) in omega arith
 
 sub-put-since-end : tie.Need-sub-put-since-end
-sub-put-since-end c = let z = (since-size (c .before .before .before .before .before .before .before .before .before .args .rule .now) (c .before .before .before .before .before .before .before .before .before .args .sizes .now) (c .before .before .before .before .before .before .before .before .before .args .k) (c .before .before .before .before .before .before .before .before .before .args .place) (c .before .before .before .before .before .before .before .before .before .args .out .now) (c .before .before .before .before .before .before .before .before .before .pre .0) (c .before .before .before .before .before .before .before .before .before .pre .1)) in let i = c .before .before .before .before .before .before .before .before .before .pre .0 .inScript in let o = c .before .before .before .before .before .before .before .before .before .pre .0 .inOutput in let l = (left-size (c .before .before .before .before .before .before .before .before .before .args .rule .now) (c .before .before .before .before .before .before .before .before .before .args .sizes .now) (c .before .before .before .before .before .before .before .before .before .args .k) (c .before .before .before .before .before .before .before .before .before .args .place) (c .before .before .before .before .before .before .before .before .before .args .out .now) (c .before .before .before .before .before .before .before .before .before .pre .0) (c .before .before .before .before .before .before .before .before .before .pre .1)) in let r = (right-size (c .before .before .before .before .before .before .before .before .before .args .rule .now) (c .before .before .before .before .before .before .before .before .before .args .sizes .now) (c .before .before .before .before .before .before .before .before .before .args .k) (c .before .before .before .before .before .before .before .before .before .args .place) (c .before .before .before .before .before .before .before .before .before .args .out .now) (c .before .before .before .before .before .before .before .before .before .pre .0) (c .before .before .before .before .before .before .before .before .before .pre .1)) in omega (arith, c .before .before .put-decision .kept .1 .1 .1 .1 .1 .1 .1 .0)
+sub-put-since-end c = let z = (since-size (c .before .before .before .before .before .before .before .before .before .args .rule .now) (c .before .before .before .before .before .before .before .before .before .args .sizes .now) (c .before .before .before .before .before .before .before .before .before .args .shared) (c .before .before .before .before .before .before .before .before .before .args .k) (c .before .before .before .before .before .before .before .before .before .args .place) (c .before .before .before .before .before .before .before .before .before .args .out .now) (c .before .before .before .before .before .before .before .before .before .pre .0) (c .before .before .before .before .before .before .before .before .before .pre .1)) in let i = c .before .before .before .before .before .before .before .before .before .pre .0 .inScript in let o = c .before .before .before .before .before .before .before .before .before .pre .0 .inOutput in let l = (left-size (c .before .before .before .before .before .before .before .before .before .args .rule .now) (c .before .before .before .before .before .before .before .before .before .args .sizes .now) (c .before .before .before .before .before .before .before .before .before .args .shared) (c .before .before .before .before .before .before .before .before .before .args .k) (c .before .before .before .before .before .before .before .before .before .args .place) (c .before .before .before .before .before .before .before .before .before .args .out .now) (c .before .before .before .before .before .before .before .before .before .pre .0) (c .before .before .before .before .before .before .before .before .before .pre .1)) in let r = (right-size (c .before .before .before .before .before .before .before .before .before .args .rule .now) (c .before .before .before .before .before .before .before .before .before .args .sizes .now) (c .before .before .before .before .before .before .before .before .before .args .shared) (c .before .before .before .before .before .before .before .before .before .args .k) (c .before .before .before .before .before .before .before .before .before .args .place) (c .before .before .before .before .before .before .before .before .before .args .out .now) (c .before .before .before .before .before .before .before .before .before .pre .0) (c .before .before .before .before .before .before .before .before .before .pre .1)) in omega (arith, c .before .before .put-decision .kept .1 .1 .1 .1 .1 .1 .1 .1 .1 .0)
 
 part-put-since-end-start : tie.Need-part-put-since-end-start
-part-put-since-end-start c = let z = (since-size (c .before .before .before .before .before .before .before .before .before .args .rule .now) (c .before .before .before .before .before .before .before .before .before .args .sizes .now) (c .before .before .before .before .before .before .before .before .before .args .k) (c .before .before .before .before .before .before .before .before .before .args .place) (c .before .before .before .before .before .before .before .before .before .args .out .now) (c .before .before .before .before .before .before .before .before .before .pre .0) (c .before .before .before .before .before .before .before .before .before .pre .1)) in let i = c .before .before .before .before .before .before .before .before .before .pre .0 .inScript in let o = c .before .before .before .before .before .before .before .before .before .pre .0 .inOutput in let l = (left-size (c .before .before .before .before .before .before .before .before .before .args .rule .now) (c .before .before .before .before .before .before .before .before .before .args .sizes .now) (c .before .before .before .before .before .before .before .before .before .args .k) (c .before .before .before .before .before .before .before .before .before .args .place) (c .before .before .before .before .before .before .before .before .before .args .out .now) (c .before .before .before .before .before .before .before .before .before .pre .0) (c .before .before .before .before .before .before .before .before .before .pre .1)) in let r = (right-size (c .before .before .before .before .before .before .before .before .before .args .rule .now) (c .before .before .before .before .before .before .before .before .before .args .sizes .now) (c .before .before .before .before .before .before .before .before .before .args .k) (c .before .before .before .before .before .before .before .before .before .args .place) (c .before .before .before .before .before .before .before .before .before .args .out .now) (c .before .before .before .before .before .before .before .before .before .pre .0) (c .before .before .before .before .before .before .before .before .before .pre .1)) in omega (arith, c .before .before .put-decision .kept .1 .1 .1 .1 .1 .1 .1 .0)
+part-put-since-end-start c = let z = (since-size (c .before .before .before .before .before .before .before .before .before .args .rule .now) (c .before .before .before .before .before .before .before .before .before .args .sizes .now) (c .before .before .before .before .before .before .before .before .before .args .shared) (c .before .before .before .before .before .before .before .before .before .args .k) (c .before .before .before .before .before .before .before .before .before .args .place) (c .before .before .before .before .before .before .before .before .before .args .out .now) (c .before .before .before .before .before .before .before .before .before .pre .0) (c .before .before .before .before .before .before .before .before .before .pre .1)) in let i = c .before .before .before .before .before .before .before .before .before .pre .0 .inScript in let o = c .before .before .before .before .before .before .before .before .before .pre .0 .inOutput in let l = (left-size (c .before .before .before .before .before .before .before .before .before .args .rule .now) (c .before .before .before .before .before .before .before .before .before .args .sizes .now) (c .before .before .before .before .before .before .before .before .before .args .shared) (c .before .before .before .before .before .before .before .before .before .args .k) (c .before .before .before .before .before .before .before .before .before .args .place) (c .before .before .before .before .before .before .before .before .before .args .out .now) (c .before .before .before .before .before .before .before .before .before .pre .0) (c .before .before .before .before .before .before .before .before .before .pre .1)) in let r = (right-size (c .before .before .before .before .before .before .before .before .before .args .rule .now) (c .before .before .before .before .before .before .before .before .before .args .sizes .now) (c .before .before .before .before .before .before .before .before .before .args .shared) (c .before .before .before .before .before .before .before .before .before .args .k) (c .before .before .before .before .before .before .before .before .before .args .place) (c .before .before .before .before .before .before .before .before .before .args .out .now) (c .before .before .before .before .before .before .before .before .before .pre .0) (c .before .before .before .before .before .before .before .before .before .pre .1)) in omega (arith, c .before .before .put-decision .kept .1 .1 .1 .1 .1 .1 .1 .1 .1 .0)
 
 part-put-since-end-end : tie.Need-part-put-since-end-end
 part-put-since-end-end c = search needs
 
 put-since-end-requires : tie.Need-put-since-end-requires
-put-since-end-requires c κs = (since-end (c .before .before .before .before .before .before .before .before .before .before .args .rule .now) (c .before .before .before .before .before .before .before .before .before .before .args .sizes .now) (c .before .before .before .before .before .before .before .before .before .before .args .k) (c .before .before .before .before .before .before .before .before .before .before .args .place) (c .before .before .before .before .before .before .before .before .before .before .args .out .now) (c .before .before .before .before .before .before .before .before .before .before .pre .0) (c .before .before .before .before .before .before .before .before .before .before .pre .1) _ (part-of _ (c .before .before .before .put-decision .last .1 .1 .1 .1 .1 .1 .1 .0) (c .before .before .before .before .before .before .before .before .before .before .args .out .now) (c .before .before .before .put-decision .kept .1 .1 .1 .1 .1 .1 .1 .0)))
+put-since-end-requires c κs = (since-end (c .before .before .before .before .before .before .before .before .before .before .args .rule .now) (c .before .before .before .before .before .before .before .before .before .before .args .sizes .now) (c .before .before .before .before .before .before .before .before .before .before .args .shared) (c .before .before .before .before .before .before .before .before .before .before .args .k) (c .before .before .before .before .before .before .before .before .before .before .args .place) (c .before .before .before .before .before .before .before .before .before .before .args .out .now) (c .before .before .before .before .before .before .before .before .before .before .pre .0) (c .before .before .before .before .before .before .before .before .before .before .pre .1) _ (part-of _ (c .before .before .before .put-decision .last .1 .1 .1 .1 .1 .1 .1 .1 .1 .0) (c .before .before .before .before .before .before .before .before .before .before .args .out .now) (c .before .before .before .put-decision .kept .1 .1 .1 .1 .1 .1 .1 .1 .1 .0)))
 
 add-result : tie.Need-add-result
-add-result c = let z = (since-size (c .before .before .before .before .before .before .before .before .before .before .before .before .before .args .rule .now) (c .before .before .before .before .before .before .before .before .before .before .before .before .before .args .sizes .now) (c .before .before .before .before .before .before .before .before .before .before .before .before .before .args .k) (c .before .before .before .before .before .before .before .before .before .before .before .before .before .args .place) (c .before .before .before .before .before .before .before .before .before .before .before .before .before .args .out .now) (c .before .before .before .before .before .before .before .before .before .before .before .before .before .pre .0) (c .before .before .before .before .before .before .before .before .before .before .before .before .before .pre .1)) in let i = c .before .before .before .before .before .before .before .before .before .before .before .before .before .pre .0 .inScript in let o = c .before .before .before .before .before .before .before .before .before .before .before .before .before .pre .0 .inOutput in let l = (left-size (c .before .before .before .before .before .before .before .before .before .before .before .before .before .args .rule .now) (c .before .before .before .before .before .before .before .before .before .before .before .before .before .args .sizes .now) (c .before .before .before .before .before .before .before .before .before .before .before .before .before .args .k) (c .before .before .before .before .before .before .before .before .before .before .before .before .before .args .place) (c .before .before .before .before .before .before .before .before .before .before .before .before .before .args .out .now) (c .before .before .before .before .before .before .before .before .before .before .before .before .before .pre .0) (c .before .before .before .before .before .before .before .before .before .before .before .before .before .pre .1)) in let r = (right-size (c .before .before .before .before .before .before .before .before .before .before .before .before .before .args .rule .now) (c .before .before .before .before .before .before .before .before .before .before .before .before .before .args .sizes .now) (c .before .before .before .before .before .before .before .before .before .before .before .before .before .args .k) (c .before .before .before .before .before .before .before .before .before .before .before .before .before .args .place) (c .before .before .before .before .before .before .before .before .before .before .before .before .before .args .out .now) (c .before .before .before .before .before .before .before .before .before .before .before .before .before .pre .0) (c .before .before .before .before .before .before .before .before .before .before .before .before .before .pre .1)) in omega arith
+add-result c = let z = (since-size (c .before .before .before .before .before .before .before .before .before .before .before .before .before .args .rule .now) (c .before .before .before .before .before .before .before .before .before .before .before .before .before .args .sizes .now) (c .before .before .before .before .before .before .before .before .before .before .before .before .before .args .shared) (c .before .before .before .before .before .before .before .before .before .before .before .before .before .args .k) (c .before .before .before .before .before .before .before .before .before .before .before .before .before .args .place) (c .before .before .before .before .before .before .before .before .before .before .before .before .before .args .out .now) (c .before .before .before .before .before .before .before .before .before .before .before .before .before .pre .0) (c .before .before .before .before .before .before .before .before .before .before .before .before .before .pre .1)) in let i = c .before .before .before .before .before .before .before .before .before .before .before .before .before .pre .0 .inScript in let o = c .before .before .before .before .before .before .before .before .before .before .before .before .before .pre .0 .inOutput in let l = (left-size (c .before .before .before .before .before .before .before .before .before .before .before .before .before .args .rule .now) (c .before .before .before .before .before .before .before .before .before .before .before .before .before .args .sizes .now) (c .before .before .before .before .before .before .before .before .before .before .before .before .before .args .shared) (c .before .before .before .before .before .before .before .before .before .before .before .before .before .args .k) (c .before .before .before .before .before .before .before .before .before .before .before .before .before .args .place) (c .before .before .before .before .before .before .before .before .before .before .before .before .before .args .out .now) (c .before .before .before .before .before .before .before .before .before .before .before .before .before .pre .0) (c .before .before .before .before .before .before .before .before .before .before .before .before .before .pre .1)) in let r = (right-size (c .before .before .before .before .before .before .before .before .before .before .before .before .before .args .rule .now) (c .before .before .before .before .before .before .before .before .before .before .before .before .before .args .sizes .now) (c .before .before .before .before .before .before .before .before .before .before .before .before .before .args .shared) (c .before .before .before .before .before .before .before .before .before .before .before .before .before .args .k) (c .before .before .before .before .before .before .before .before .before .before .before .before .before .args .place) (c .before .before .before .before .before .before .before .before .before .before .before .before .before .args .out .now) (c .before .before .before .before .before .before .before .before .before .before .before .before .before .pre .0) (c .before .before .before .before .before .before .before .before .before .before .before .before .before .pre .1)) in omega arith
 
 add-result-2 : tie.Need-add-result-2
-add-result-2 c = let z = (since-size (c .before .before .before .before .before .before .before .before .before .before .before .before .before .args .rule .now) (c .before .before .before .before .before .before .before .before .before .before .before .before .before .args .sizes .now) (c .before .before .before .before .before .before .before .before .before .before .before .before .before .args .k) (c .before .before .before .before .before .before .before .before .before .before .before .before .before .args .place) (c .before .before .before .before .before .before .before .before .before .before .before .before .before .args .out .now) (c .before .before .before .before .before .before .before .before .before .before .before .before .before .pre .0) (c .before .before .before .before .before .before .before .before .before .before .before .before .before .pre .1)) in let i = c .before .before .before .before .before .before .before .before .before .before .before .before .before .pre .0 .inScript in let o = c .before .before .before .before .before .before .before .before .before .before .before .before .before .pre .0 .inOutput in let l = (left-size (c .before .before .before .before .before .before .before .before .before .before .before .before .before .args .rule .now) (c .before .before .before .before .before .before .before .before .before .before .before .before .before .args .sizes .now) (c .before .before .before .before .before .before .before .before .before .before .before .before .before .args .k) (c .before .before .before .before .before .before .before .before .before .before .before .before .before .args .place) (c .before .before .before .before .before .before .before .before .before .before .before .before .before .args .out .now) (c .before .before .before .before .before .before .before .before .before .before .before .before .before .pre .0) (c .before .before .before .before .before .before .before .before .before .before .before .before .before .pre .1)) in let r = (right-size (c .before .before .before .before .before .before .before .before .before .before .before .before .before .args .rule .now) (c .before .before .before .before .before .before .before .before .before .before .before .before .before .args .sizes .now) (c .before .before .before .before .before .before .before .before .before .before .before .before .before .args .k) (c .before .before .before .before .before .before .before .before .before .before .before .before .before .args .place) (c .before .before .before .before .before .before .before .before .before .before .before .before .before .args .out .now) (c .before .before .before .before .before .before .before .before .before .before .before .before .before .pre .0) (c .before .before .before .before .before .before .before .before .before .before .before .before .before .pre .1)) in omega arith
+add-result-2 c = let z = (since-size (c .before .before .before .before .before .before .before .before .before .before .before .before .before .args .rule .now) (c .before .before .before .before .before .before .before .before .before .before .before .before .before .args .sizes .now) (c .before .before .before .before .before .before .before .before .before .before .before .before .before .args .shared) (c .before .before .before .before .before .before .before .before .before .before .before .before .before .args .k) (c .before .before .before .before .before .before .before .before .before .before .before .before .before .args .place) (c .before .before .before .before .before .before .before .before .before .before .before .before .before .args .out .now) (c .before .before .before .before .before .before .before .before .before .before .before .before .before .pre .0) (c .before .before .before .before .before .before .before .before .before .before .before .before .before .pre .1)) in let i = c .before .before .before .before .before .before .before .before .before .before .before .before .before .pre .0 .inScript in let o = c .before .before .before .before .before .before .before .before .before .before .before .before .before .pre .0 .inOutput in let l = (left-size (c .before .before .before .before .before .before .before .before .before .before .before .before .before .args .rule .now) (c .before .before .before .before .before .before .before .before .before .before .before .before .before .args .sizes .now) (c .before .before .before .before .before .before .before .before .before .before .before .before .before .args .shared) (c .before .before .before .before .before .before .before .before .before .before .before .before .before .args .k) (c .before .before .before .before .before .before .before .before .before .before .before .before .before .args .place) (c .before .before .before .before .before .before .before .before .before .before .before .before .before .args .out .now) (c .before .before .before .before .before .before .before .before .before .before .before .before .before .pre .0) (c .before .before .before .before .before .before .before .before .before .before .before .before .before .pre .1)) in let r = (right-size (c .before .before .before .before .before .before .before .before .before .before .before .before .before .args .rule .now) (c .before .before .before .before .before .before .before .before .before .before .before .before .before .args .sizes .now) (c .before .before .before .before .before .before .before .before .before .before .before .before .before .args .shared) (c .before .before .before .before .before .before .before .before .before .before .before .before .before .args .k) (c .before .before .before .before .before .before .before .before .before .before .before .before .before .args .place) (c .before .before .before .before .before .before .before .before .before .before .before .before .before .args .out .now) (c .before .before .before .before .before .before .before .before .before .before .before .before .before .pre .0) (c .before .before .before .before .before .before .before .before .before .before .before .before .before .pre .1)) in omega arith
 
 add-result-3 : tie.Need-add-result-3
-add-result-3 c = let z = (since-size (c .before .before .before .before .before .before .before .before .before .before .before .before .before .args .rule .now) (c .before .before .before .before .before .before .before .before .before .before .before .before .before .args .sizes .now) (c .before .before .before .before .before .before .before .before .before .before .before .before .before .args .k) (c .before .before .before .before .before .before .before .before .before .before .before .before .before .args .place) (c .before .before .before .before .before .before .before .before .before .before .before .before .before .args .out .now) (c .before .before .before .before .before .before .before .before .before .before .before .before .before .pre .0) (c .before .before .before .before .before .before .before .before .before .before .before .before .before .pre .1)) in let i = c .before .before .before .before .before .before .before .before .before .before .before .before .before .pre .0 .inScript in let o = c .before .before .before .before .before .before .before .before .before .before .before .before .before .pre .0 .inOutput in let l = (left-size (c .before .before .before .before .before .before .before .before .before .before .before .before .before .args .rule .now) (c .before .before .before .before .before .before .before .before .before .before .before .before .before .args .sizes .now) (c .before .before .before .before .before .before .before .before .before .before .before .before .before .args .k) (c .before .before .before .before .before .before .before .before .before .before .before .before .before .args .place) (c .before .before .before .before .before .before .before .before .before .before .before .before .before .args .out .now) (c .before .before .before .before .before .before .before .before .before .before .before .before .before .pre .0) (c .before .before .before .before .before .before .before .before .before .before .before .before .before .pre .1)) in let r = (right-size (c .before .before .before .before .before .before .before .before .before .before .before .before .before .args .rule .now) (c .before .before .before .before .before .before .before .before .before .before .before .before .before .args .sizes .now) (c .before .before .before .before .before .before .before .before .before .before .before .before .before .args .k) (c .before .before .before .before .before .before .before .before .before .before .before .before .before .args .place) (c .before .before .before .before .before .before .before .before .before .before .before .before .before .args .out .now) (c .before .before .before .before .before .before .before .before .before .before .before .before .before .pre .0) (c .before .before .before .before .before .before .before .before .before .before .before .before .before .pre .1)) in omega arith
+add-result-3 c = let z = (since-size (c .before .before .before .before .before .before .before .before .before .before .before .before .before .args .rule .now) (c .before .before .before .before .before .before .before .before .before .before .before .before .before .args .sizes .now) (c .before .before .before .before .before .before .before .before .before .before .before .before .before .args .shared) (c .before .before .before .before .before .before .before .before .before .before .before .before .before .args .k) (c .before .before .before .before .before .before .before .before .before .before .before .before .before .args .place) (c .before .before .before .before .before .before .before .before .before .before .before .before .before .args .out .now) (c .before .before .before .before .before .before .before .before .before .before .before .before .before .pre .0) (c .before .before .before .before .before .before .before .before .before .before .before .before .before .pre .1)) in let i = c .before .before .before .before .before .before .before .before .before .before .before .before .before .pre .0 .inScript in let o = c .before .before .before .before .before .before .before .before .before .before .before .before .before .pre .0 .inOutput in let l = (left-size (c .before .before .before .before .before .before .before .before .before .before .before .before .before .args .rule .now) (c .before .before .before .before .before .before .before .before .before .before .before .before .before .args .sizes .now) (c .before .before .before .before .before .before .before .before .before .before .before .before .before .args .shared) (c .before .before .before .before .before .before .before .before .before .before .before .before .before .args .k) (c .before .before .before .before .before .before .before .before .before .before .before .before .before .args .place) (c .before .before .before .before .before .before .before .before .before .before .before .before .before .args .out .now) (c .before .before .before .before .before .before .before .before .before .before .before .before .before .pre .0) (c .before .before .before .before .before .before .before .before .before .before .before .before .before .pre .1)) in let r = (right-size (c .before .before .before .before .before .before .before .before .before .before .before .before .before .args .rule .now) (c .before .before .before .before .before .before .before .before .before .before .before .before .before .args .sizes .now) (c .before .before .before .before .before .before .before .before .before .before .before .before .before .args .shared) (c .before .before .before .before .before .before .before .before .before .before .before .before .before .args .k) (c .before .before .before .before .before .before .before .before .before .before .before .before .before .args .place) (c .before .before .before .before .before .before .before .before .before .before .before .before .before .args .out .now) (c .before .before .before .before .before .before .before .before .before .before .before .before .before .pre .0) (c .before .before .before .before .before .before .before .before .before .before .before .before .before .pre .1)) in omega arith
 
 same-length : tie.Need-same-length
 same-length c = search needs
@@ -100,12 +100,12 @@ returns c = let a = c .before .before .before .before .before .before .before .b
     let l = getD (a .sizes .now) left 0 in
     let order = rule-out form32 (a .rule .now) (c .before .before .before .before .before .before .before .before .before .before .before .before .before .pre .0 .sized .0) .ordered in
     let o = c .before .before .before .before .before .before .before .before .before .before .before .before .before .pre .0 .inOutput in
-    let z = (since-size (c .before .before .before .before .before .before .before .before .before .before .before .before .before .args .rule .now) (c .before .before .before .before .before .before .before .before .before .before .before .before .before .args .sizes .now) (c .before .before .before .before .before .before .before .before .before .before .before .before .before .args .k) (c .before .before .before .before .before .before .before .before .before .before .before .before .before .args .place) (c .before .before .before .before .before .before .before .before .before .before .before .before .before .args .out .now) (c .before .before .before .before .before .before .before .before .before .before .before .before .before .pre .0) (c .before .before .before .before .before .before .before .before .before .before .before .before .before .pre .1)) in (
+    let z = (since-size (c .before .before .before .before .before .before .before .before .before .before .before .before .before .args .rule .now) (c .before .before .before .before .before .before .before .before .before .before .before .before .before .args .sizes .now) (c .before .before .before .before .before .before .before .before .before .before .before .before .before .args .shared) (c .before .before .before .before .before .before .before .before .before .before .before .before .before .args .k) (c .before .before .before .before .before .before .before .before .before .before .before .before .before .args .place) (c .before .before .before .before .before .before .before .before .before .before .before .before .before .args .out .now) (c .before .before .before .before .before .before .before .before .before .before .before .before .before .pre .0) (c .before .before .before .before .before .before .before .before .before .before .before .before .before .pre .1)) in (
       z,
       written-then (decide t right (a .place) (a .place + r + 2 + l) (a .place + r) F) (sinceEnd t (a .k) left right (a .place + r) F) r (2 + l + 3) (8 * r) (a .out .now) _ _
-          (length-decide t order right _ _ _ _ ∙ sym (right-size (c .before .before .before .before .before .before .before .before .before .before .before .before .before .args .rule .now) (c .before .before .before .before .before .before .before .before .before .before .before .before .before .args .sizes .now) (c .before .before .before .before .before .before .before .before .before .before .before .before .before .args .k) (c .before .before .before .before .before .before .before .before .before .before .before .before .before .args .place) (c .before .before .before .before .before .before .before .before .before .before .before .before .before .args .out .now) (c .before .before .before .before .before .before .before .before .before .before .before .before .before .pre .0) (c .before .before .before .before .before .before .before .before .before .before .before .before .before .pre .1))) (length-end t order (a .k) left right (a .place + r) F ∙ ap (λ m. 2 + m + 3) (sym (left-size (c .before .before .before .before .before .before .before .before .before .before .before .before .before .args .rule .now) (c .before .before .before .before .before .before .before .before .before .before .before .before .before .args .sizes .now) (c .before .before .before .before .before .before .before .before .before .before .before .before .before .args .k) (c .before .before .before .before .before .before .before .before .before .before .before .before .before .args .place) (c .before .before .before .before .before .before .before .before .before .before .before .before .before .args .out .now) (c .before .before .before .before .before .before .before .before .before .before .before .before .before .pre .0) (c .before .before .before .before .before .before .before .before .before .before .before .before .before .pre .1)))) refl (omega arith)
+          (length-decide t order right _ _ _ _ ∙ sym (right-size (c .before .before .before .before .before .before .before .before .before .before .before .before .before .args .rule .now) (c .before .before .before .before .before .before .before .before .before .before .before .before .before .args .sizes .now) (c .before .before .before .before .before .before .before .before .before .before .before .before .before .args .shared) (c .before .before .before .before .before .before .before .before .before .before .before .before .before .args .k) (c .before .before .before .before .before .before .before .before .before .before .before .before .before .args .place) (c .before .before .before .before .before .before .before .before .before .before .before .before .before .args .out .now) (c .before .before .before .before .before .before .before .before .before .before .before .before .before .pre .0) (c .before .before .before .before .before .before .before .before .before .before .before .before .before .pre .1))) (length-end t order (a .k) left right (a .place + r) F ∙ ap (λ m. 2 + m + 3) (sym (left-size (c .before .before .before .before .before .before .before .before .before .before .before .before .before .args .rule .now) (c .before .before .before .before .before .before .before .before .before .before .before .before .before .args .sizes .now) (c .before .before .before .before .before .before .before .before .before .before .before .before .before .args .shared) (c .before .before .before .before .before .before .before .before .before .before .before .before .before .args .k) (c .before .before .before .before .before .before .before .before .before .before .before .before .before .args .place) (c .before .before .before .before .before .before .before .before .before .before .before .before .before .args .out .now) (c .before .before .before .before .before .before .before .before .before .before .before .before .before .pre .0) (c .before .before .before .before .before .before .before .before .before .before .before .before .before .pre .1)))) refl (omega arith)
           (c .before .before .before .before .before .before .put-decision .ensures) (c .before .before .put-since-end .ensures)
-          ∙ ap (λ ls. written ls (a .out .now)) (since-code (c .before .before .before .before .before .before .before .before .before .before .before .before .before .args .rule .now) (c .before .before .before .before .before .before .before .before .before .before .before .before .before .args .sizes .now) (c .before .before .before .before .before .before .before .before .before .before .before .before .before .args .k) (c .before .before .before .before .before .before .before .before .before .before .before .before .before .args .place) (c .before .before .before .before .before .before .before .before .before .before .before .before .before .args .out .now) (c .before .before .before .before .before .before .before .before .before .before .before .before .before .pre .0) (c .before .before .before .before .before .before .before .before .before .before .before .before .before .pre .1) F),
+          ∙ ap (λ ls. written ls (a .out .now)) (since-code (c .before .before .before .before .before .before .before .before .before .before .before .before .before .args .rule .now) (c .before .before .before .before .before .before .before .before .before .before .before .before .before .args .sizes .now) (c .before .before .before .before .before .before .before .before .before .before .before .before .before .args .shared) (c .before .before .before .before .before .before .before .before .before .before .before .before .before .args .k) (c .before .before .before .before .before .before .before .before .before .before .before .before .before .args .place) (c .before .before .before .before .before .before .before .before .before .before .before .before .before .args .out .now) (c .before .before .before .before .before .before .before .before .before .before .before .before .before .pre .0) (c .before .before .before .before .before .before .before .before .before .before .before .before .before .pre .1) F),
     )
 
 pub put-since-spec : {M : Type 1} → statement M

@@ -41,40 +41,40 @@ element-copy-out-l : tie.Need-element-copy-out-l
 element-copy-out-l c = search needs
 
 cast-l : tie.Need-cast-l
-cast-l c = let z = (end-size (c .before .before .before .before .args .rule .now) (c .before .before .before .before .args .sizes .now) (c .before .before .before .before .args .k) (c .before .before .before .before .args .place) (c .before .before .before .before .args .out .now) (c .before .before .before .before .pre)) in let i = c .before .before .before .before .pre .inScript in let o = c .before .before .before .before .pre .inOutput in omega arith
+cast-l c = let z = (end-size (c .before .before .before .before .args .rule .now) (c .before .before .before .before .args .sizes .now) (c .before .before .before .before .args .shared) (c .before .before .before .before .args .k) (c .before .before .before .before .args .place) (c .before .before .before .before .args .out .now) (c .before .before .before .before .pre)) in let i = c .before .before .before .before .pre .inScript in let o = c .before .before .before .before .pre .inOutput in omega arith
 
 add-set-at : tie.Need-add-set-at
 add-set-at c = search needs
 
 add-set-at-2 : tie.Need-add-set-at-2
-add-set-at-2 c = let z = (end-size (c .before .before .before .before .args .rule .now) (c .before .before .before .before .args .sizes .now) (c .before .before .before .before .args .k) (c .before .before .before .before .args .place) (c .before .before .before .before .args .out .now) (c .before .before .before .before .pre)) in let i = c .before .before .before .before .pre .inScript in let o = c .before .before .before .before .pre .inOutput in omega arith
+add-set-at-2 c = let z = (end-size (c .before .before .before .before .args .rule .now) (c .before .before .before .before .args .sizes .now) (c .before .before .before .before .args .shared) (c .before .before .before .before .args .k) (c .before .before .before .before .args .place) (c .before .before .before .before .args .out .now) (c .before .before .before .before .pre)) in let i = c .before .before .before .before .pre .inScript in let o = c .before .before .before .before .pre .inOutput in omega arith
 
 learn-value-requires : tie.Need-learn-value-requires
 learn-value-requires c κs = search needs
 
 put-left-requires : tie.Need-put-left-requires
-put-left-requires c κs = let z = (end-size (c .before .before .before .before .before .before .args .rule .now) (c .before .before .before .before .before .before .args .sizes .now) (c .before .before .before .before .before .before .args .k) (c .before .before .before .before .before .before .args .place) (c .before .before .before .before .before .before .args .out .now) (c .before .before .before .before .before .before .pre)) in let i = c .before .before .before .before .before .before .pre .inScript in let o = c .before .before .before .before .before .before .pre .inOutput in let f = (end-few (c .before .before .before .before .before .before .args .rule .now) (c .before .before .before .before .before .before .args .sizes .now) (c .before .before .before .before .before .before .args .k) (c .before .before .before .before .before .before .args .place) (c .before .before .before .before .before .before .args .out .now) (c .before .before .before .before .before .before .pre)) in (omega arith, omega arith, (end-left (c .before .before .before .before .before .before .args .rule .now) (c .before .before .before .before .before .before .args .sizes .now) (c .before .before .before .before .before .before .args .k) (c .before .before .before .before .before .before .args .place) (c .before .before .before .before .before .before .args .out .now) (c .before .before .before .before .before .before .pre)))
+put-left-requires c κs = let z = (end-size (c .before .before .before .before .before .before .args .rule .now) (c .before .before .before .before .before .before .args .sizes .now) (c .before .before .before .before .before .before .args .shared) (c .before .before .before .before .before .before .args .k) (c .before .before .before .before .before .before .args .place) (c .before .before .before .before .before .before .args .out .now) (c .before .before .before .before .before .before .pre)) in let i = c .before .before .before .before .before .before .pre .inScript in let o = c .before .before .before .before .before .before .pre .inOutput in let f = (end-few (c .before .before .before .before .before .before .args .rule .now) (c .before .before .before .before .before .before .args .sizes .now) (c .before .before .before .before .before .before .args .shared) (c .before .before .before .before .before .before .args .k) (c .before .before .before .before .before .before .args .place) (c .before .before .before .before .before .before .args .out .now) (c .before .before .before .before .before .before .pre)) in (omega arith, omega arith, (end-left (c .before .before .before .before .before .before .args .rule .now) (c .before .before .before .before .before .before .args .sizes .now) (c .before .before .before .before .before .before .args .shared) (c .before .before .before .before .before .before .args .k) (c .before .before .before .before .before .before .args .place) (c .before .before .before .before .before .before .args .out .now) (c .before .before .before .before .before .before .pre)))
 
 add-put-setting : tie.Need-add-put-setting
-add-put-setting c = let z = (end-size (c .before .before .before .before .before .before .before .before .before .args .rule .now) (c .before .before .before .before .before .before .before .before .before .args .sizes .now) (c .before .before .before .before .before .before .before .before .before .args .k) (c .before .before .before .before .before .before .before .before .before .args .place) (c .before .before .before .before .before .before .before .before .before .args .out .now) (c .before .before .before .before .before .before .before .before .before .pre)) in let i = c .before .before .before .before .before .before .before .before .before .pre .inScript in let o = c .before .before .before .before .before .before .before .before .before .pre .inOutput in omega arith
+add-put-setting c = let z = (end-size (c .before .before .before .before .before .before .before .before .before .args .rule .now) (c .before .before .before .before .before .before .before .before .before .args .sizes .now) (c .before .before .before .before .before .before .before .before .before .args .shared) (c .before .before .before .before .before .before .before .before .before .args .k) (c .before .before .before .before .before .before .before .before .before .args .place) (c .before .before .before .before .before .before .before .before .before .args .out .now) (c .before .before .before .before .before .before .before .before .before .pre)) in let i = c .before .before .before .before .before .before .before .before .before .pre .inScript in let o = c .before .before .before .before .before .before .before .before .before .pre .inOutput in omega arith
 
 mul-put-setting : tie.Need-mul-put-setting
-mul-put-setting c = let z = (end-size (c .before .before .before .before .before .before .before .before .before .args .rule .now) (c .before .before .before .before .before .before .before .before .before .args .sizes .now) (c .before .before .before .before .before .before .before .before .before .args .k) (c .before .before .before .before .before .before .before .before .before .args .place) (c .before .before .before .before .before .before .before .before .before .args .out .now) (c .before .before .before .before .before .before .before .before .before .pre)) in let i = c .before .before .before .before .before .before .before .before .before .pre .inScript in let o = c .before .before .before .before .before .before .before .before .before .pre .inOutput in omega arith
+mul-put-setting c = let z = (end-size (c .before .before .before .before .before .before .before .before .before .args .rule .now) (c .before .before .before .before .before .before .before .before .before .args .sizes .now) (c .before .before .before .before .before .before .before .before .before .args .shared) (c .before .before .before .before .before .before .before .before .before .args .k) (c .before .before .before .before .before .before .before .before .before .args .place) (c .before .before .before .before .before .before .before .before .before .args .out .now) (c .before .before .before .before .before .before .before .before .before .pre)) in let i = c .before .before .before .before .before .before .before .before .before .pre .inScript in let o = c .before .before .before .before .before .before .before .before .before .pre .inOutput in omega arith
 
 mul-put-setting-2 : tie.Need-mul-put-setting-2
-mul-put-setting-2 c = let z = (end-size (c .before .before .before .before .before .before .before .before .before .args .rule .now) (c .before .before .before .before .before .before .before .before .before .args .sizes .now) (c .before .before .before .before .before .before .before .before .before .args .k) (c .before .before .before .before .before .before .before .before .before .args .place) (c .before .before .before .before .before .before .before .before .before .args .out .now) (c .before .before .before .before .before .before .before .before .before .pre)) in let i = c .before .before .before .before .before .before .before .before .before .pre .inScript in let o = c .before .before .before .before .before .before .before .before .before .pre .inOutput in omega arith
+mul-put-setting-2 c = let z = (end-size (c .before .before .before .before .before .before .before .before .before .args .rule .now) (c .before .before .before .before .before .before .before .before .before .args .sizes .now) (c .before .before .before .before .before .before .before .before .before .args .shared) (c .before .before .before .before .before .before .before .before .before .args .k) (c .before .before .before .before .before .before .before .before .before .args .place) (c .before .before .before .before .before .before .before .before .before .args .out .now) (c .before .before .before .before .before .before .before .before .before .pre)) in let i = c .before .before .before .before .before .before .before .before .before .pre .inScript in let o = c .before .before .before .before .before .before .before .before .before .pre .inOutput in omega arith
 
 sub-put-setting : tie.Need-sub-put-setting
-sub-put-setting c = let z = (end-size (c .before .before .before .before .before .before .before .before .before .args .rule .now) (c .before .before .before .before .before .before .before .before .before .args .sizes .now) (c .before .before .before .before .before .before .before .before .before .args .k) (c .before .before .before .before .before .before .before .before .before .args .place) (c .before .before .before .before .before .before .before .before .before .args .out .now) (c .before .before .before .before .before .before .before .before .before .pre)) in let i = c .before .before .before .before .before .before .before .before .before .pre .inScript in let o = c .before .before .before .before .before .before .before .before .before .pre .inOutput in omega (arith, c .before .before .put-left .kept .1 .1 .1 .1 .1 .1 .1 .0)
+sub-put-setting c = let z = (end-size (c .before .before .before .before .before .before .before .before .before .args .rule .now) (c .before .before .before .before .before .before .before .before .before .args .sizes .now) (c .before .before .before .before .before .before .before .before .before .args .shared) (c .before .before .before .before .before .before .before .before .before .args .k) (c .before .before .before .before .before .before .before .before .before .args .place) (c .before .before .before .before .before .before .before .before .before .args .out .now) (c .before .before .before .before .before .before .before .before .before .pre)) in let i = c .before .before .before .before .before .before .before .before .before .pre .inScript in let o = c .before .before .before .before .before .before .before .before .before .pre .inOutput in omega (arith, c .before .before .put-left .kept .1 .1 .1 .1 .1 .1 .1 .1 .0)
 
 part-put-setting-start : tie.Need-part-put-setting-start
-part-put-setting-start c = let z = (end-size (c .before .before .before .before .before .before .before .before .before .args .rule .now) (c .before .before .before .before .before .before .before .before .before .args .sizes .now) (c .before .before .before .before .before .before .before .before .before .args .k) (c .before .before .before .before .before .before .before .before .before .args .place) (c .before .before .before .before .before .before .before .before .before .args .out .now) (c .before .before .before .before .before .before .before .before .before .pre)) in let i = c .before .before .before .before .before .before .before .before .before .pre .inScript in let o = c .before .before .before .before .before .before .before .before .before .pre .inOutput in omega (arith, c .before .before .put-left .kept .1 .1 .1 .1 .1 .1 .1 .0)
+part-put-setting-start c = let z = (end-size (c .before .before .before .before .before .before .before .before .before .args .rule .now) (c .before .before .before .before .before .before .before .before .before .args .sizes .now) (c .before .before .before .before .before .before .before .before .before .args .shared) (c .before .before .before .before .before .before .before .before .before .args .k) (c .before .before .before .before .before .before .before .before .before .args .place) (c .before .before .before .before .before .before .before .before .before .args .out .now) (c .before .before .before .before .before .before .before .before .before .pre)) in let i = c .before .before .before .before .before .before .before .before .before .pre .inScript in let o = c .before .before .before .before .before .before .before .before .before .pre .inOutput in omega (arith, c .before .before .put-left .kept .1 .1 .1 .1 .1 .1 .1 .1 .0)
 
 part-put-setting-end : tie.Need-part-put-setting-end
 part-put-setting-end c = search needs
 
 put-setting-requires : tie.Need-put-setting-requires
-put-setting-requires c κs = let z = (end-size (c .before .before .before .before .before .before .before .before .before .before .args .rule .now) (c .before .before .before .before .before .before .before .before .before .before .args .sizes .now) (c .before .before .before .before .before .before .before .before .before .before .args .k) (c .before .before .before .before .before .before .before .before .before .before .args .place) (c .before .before .before .before .before .before .before .before .before .before .args .out .now) (c .before .before .before .before .before .before .before .before .before .before .pre)) in let i = c .before .before .before .before .before .before .before .before .before .before .pre .inScript in let o = c .before .before .before .before .before .before .before .before .before .before .pre .inOutput in let f = (end-few (c .before .before .before .before .before .before .before .before .before .before .args .rule .now) (c .before .before .before .before .before .before .before .before .before .before .args .sizes .now) (c .before .before .before .before .before .before .before .before .before .before .args .k) (c .before .before .before .before .before .before .before .before .before .before .args .place) (c .before .before .before .before .before .before .before .before .before .before .args .out .now) (c .before .before .before .before .before .before .before .before .before .before .pre)) in let p = part-of (8 * (2 + getD (c .before .before .before .before .before .before .before .before .before .before .args .sizes .now) (leftIn (c .before .before .before .before .before .before .before .before .before .before .args .rule .now) (c .before .before .before .before .before .before .before .before .before .before .args .k)) 0)) (c .before .before .before .put-left .last .1 .1 .1 .1 .1 .1 .1 .0) (c .before .before .before .before .before .before .before .before .before .before .args .out .now) (c .before .before .before .put-left .kept .1 .1 .1 .1 .1 .1 .1 .0) in (omega arith, omega arith, omega arith, omega arith)
+put-setting-requires c κs = let z = (end-size (c .before .before .before .before .before .before .before .before .before .before .args .rule .now) (c .before .before .before .before .before .before .before .before .before .before .args .sizes .now) (c .before .before .before .before .before .before .before .before .before .before .args .shared) (c .before .before .before .before .before .before .before .before .before .before .args .k) (c .before .before .before .before .before .before .before .before .before .before .args .place) (c .before .before .before .before .before .before .before .before .before .before .args .out .now) (c .before .before .before .before .before .before .before .before .before .before .pre)) in let i = c .before .before .before .before .before .before .before .before .before .before .pre .inScript in let o = c .before .before .before .before .before .before .before .before .before .before .pre .inOutput in let f = (end-few (c .before .before .before .before .before .before .before .before .before .before .args .rule .now) (c .before .before .before .before .before .before .before .before .before .before .args .sizes .now) (c .before .before .before .before .before .before .before .before .before .before .args .shared) (c .before .before .before .before .before .before .before .before .before .before .args .k) (c .before .before .before .before .before .before .before .before .before .before .args .place) (c .before .before .before .before .before .before .before .before .before .before .args .out .now) (c .before .before .before .before .before .before .before .before .before .before .pre)) in let p = part-of (8 * (2 + getD (c .before .before .before .before .before .before .before .before .before .before .args .sizes .now) (leftIn (c .before .before .before .before .before .before .before .before .before .before .args .rule .now) (c .before .before .before .before .before .before .before .before .before .before .args .k)) 0)) (c .before .before .before .put-left .last .1 .1 .1 .1 .1 .1 .1 .1 .0) (c .before .before .before .before .before .before .before .before .before .before .args .out .now) (c .before .before .before .put-left .kept .1 .1 .1 .1 .1 .1 .1 .1 .0) in (omega arith, omega arith, omega arith, omega arith)
 
 same-length : tie.Need-same-length
 same-length c = search needs
@@ -88,7 +88,7 @@ returns c = let a = c .before .before .before .before .before .before .before .b
     let n = getD (a .sizes .now) l 0 in
     let u = c .before .before .before .before .before .before .before .before .before .before .before .before .before .pre in
     let o = u .inOutput in
-    let z = (end-size (c .before .before .before .before .before .before .before .before .before .before .before .before .before .args .rule .now) (c .before .before .before .before .before .before .before .before .before .before .before .before .before .args .sizes .now) (c .before .before .before .before .before .before .before .before .before .before .before .before .before .args .k) (c .before .before .before .before .before .before .before .before .before .before .before .before .before .args .place) (c .before .before .before .before .before .before .before .before .before .before .before .before .before .args .out .now) (c .before .before .before .before .before .before .before .before .before .before .before .before .before .pre)) in
+    let z = (end-size (c .before .before .before .before .before .before .before .before .before .before .before .before .before .args .rule .now) (c .before .before .before .before .before .before .before .before .before .before .before .before .before .args .sizes .now) (c .before .before .before .before .before .before .before .before .before .before .before .before .before .args .shared) (c .before .before .before .before .before .before .before .before .before .before .before .before .before .args .k) (c .before .before .before .before .before .before .before .before .before .before .before .before .before .args .place) (c .before .before .before .before .before .before .before .before .before .before .before .before .before .args .out .now) (c .before .before .before .before .before .before .before .before .before .before .before .before .before .pre)) in
     let G = factsOf (c .before .before .before .before .before .before .before .before .learn-value .result) in
     written-then (leftLines t (a .k) l (a .place) (a .place + 2 + n) G) (setting (a .k) (a .k) (a .place + 2 + n) F) (2 + n) 3 (8 * (2 + n)) (a .out .now) _ _
     (length-left t (rule-out form32 (a .rule .now) (u .sized .0) .ordered) (a .k) l (a .place) (a .place + 2 + n) G ∙ ap (λ m. 2 + m) (sym z)) (length-setting (a .k) (a .k) (a .place + 2 + n) F) refl (omega arith)

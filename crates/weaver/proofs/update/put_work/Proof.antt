@@ -1,0 +1,49 @@
+-- `weaver::update::put_work` meets its contract: a shared node's code, or a past node's (`UpdateLaws`). Assumes nothing.
+use mathlib.Core.Path.{_≡_, sym, ap, _∙_}
+use borrow.Author.Needs.{needs}
+use Rattle.checker.specs.FactSets.{factsOf}
+use Rattle.output.specs.Written.{written}
+use Rattle.weaver.proofs.UpdateLaws.{past-size, past-code, past-updating}
+use Rattle.weaver.proofs.update.put_work.Statement.{statement}
+use Rattle.weaver.proofs.update.put_work.Tie as tie
+
+has-requires : tie.Need-has-requires
+has-requires c κs = search needs
+
+put-shared-requires : tie.Need-put-shared-requires
+put-shared-requires c κs = let s = c .before .before .before .before .before in
+    (s .pre, sym (ap (λ f. f (s .args .k)) (s .pre .sharedIs)) ∙ sym (c .before .before .has .ensures) ∙ c .before .if1 .taken)
+
+put-update-requires : tie.Need-put-update-requires
+put-update-requires c κs = let s = c .before .before .before .before .before in
+    past-updating (s .args .rule .now) (s .args .sizes .now) (s .args .shared) (s .args .k) (s .args .place) (s .args .out .now) (s .pre)
+    (sym (ap (λ f. f (s .args .k)) (s .pre .sharedIs)) ∙ sym (c .before .before .has .ensures) ∙ c .before .if1 .left)
+
+same-length : tie.Need-same-length
+same-length c = search needs
+
+returns : tie.Need-returns
+returns c = search needs
+
+same-length-2 : tie.Need-same-length-2
+same-length-2 c = search needs
+
+returns-2 : tie.Need-returns-2
+returns-2 c = let s = c .before .before .before .before .before .before .before .before in
+    let no = sym (ap (λ f. f (s .args .k)) (s .pre .sharedIs)) ∙ sym (c .before .before .before .before .before .has .ensures) ∙ c .before .before .before .before .if1 .left in
+    let done = c .before .before .put-update .ensures in (
+      done .0 ∙ past-size (s .args .rule .now) (s .args .sizes .now) (s .args .shared) (s .args .k) (s .args .place) (s .args .out .now) (s .pre) no,
+      done .1 ∙ ap (λ ls. written ls (s .args .out .now)) (past-code (s .args .rule .now) (s .args .sizes .now) (s .args .shared) (s .args .k) (s .args .place) (s .args .out .now) (s .pre) no (factsOf (s .args .x))),
+    )
+
+pub put-work-spec : {M : Type 1} → statement M
+put-work-spec =
+    tie.close
+    (tie.spec
+    has-requires
+    put-shared-requires
+    put-update-requires
+    same-length
+    returns
+    same-length-2
+    returns-2)
