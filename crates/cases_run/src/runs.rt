@@ -11,6 +11,7 @@ use machine::Machine;
 use machine::answer::Stop;
 use rule::answer::Counted;
 use rule::node::past_at;
+use rule::shared::work_at;
 use sets::has;
 use words::word_at;
 ghost use Prim.Native.Nat.{_≤_};
@@ -25,12 +26,12 @@ fn print_stop(s: Stop) {
     }
 }
 
-// The bits of the rule's past nodes, rising.
-fn print_bits(name: &[u8], rule: &[u32], bits: u64) {
+// The kept bits, or the work bits, of the nodes that have one, rising.
+fn print_bits(name: &[u8], rule: &[u32], work: bool, bits: u64) {
     say(name);
     let mut k: usize = 0;
     while k < rule.len() {
-        if past_at(rule, k) {
+        if past_at(rule, k) | (work & work_at(rule, k)) {
             print_number(if has(bits, k) { 1 } else { 0 });
         }
         k += 1;
@@ -62,8 +63,8 @@ fn answer_steps(rule: &[u32], script: &[u32], inputs: &[u16], count: u64, histor
     say(b"stepped\n");
     print_named(b"line", m.line as u64);
     print_numbers(b"registers", &registers);
-    print_bits(b"kept", rule, m.kept);
-    print_bits(b"work", rule, m.work);
+    print_bits(b"kept", rule, false, m.kept);
+    print_bits(b"work", rule, true, m.work);
     print_named(b"presentations", m.presentations as u64);
     print_named(b"reads", m.reads as u64);
     print_numbers(b"history", &history[..]);

@@ -6,10 +6,10 @@ use Rattle.cases_run.proofs.runs.print_bits.Statement.{statement}
 use Rattle.cases_run.proofs.runs.print_bits.Tie as tie
 
 abbrev Inv-loop : tie.InvT-loop
-Inv-loop name rule bits k₀ t5 k = k ≤ length rule
+Inv-loop name rule work bits k₀ t5 k = k ≤ length rule
 
 abbrev μ-loop : tie.MeasureT-loop
-μ-loop name rule bits k₀ t5 k = length rule - k
+μ-loop name rule work bits k₀ t5 k = length rule - k
 
 say-requires : tie.Need-say-requires Inv-loop μ-loop
 say-requires c κs = search needs
@@ -19,6 +19,9 @@ loop-holds c = search needs
 
 past-at-requires : tie.Need-past-at-requires Inv-loop μ-loop
 past-at-requires c κs = search needs
+
+work-at-requires : tie.Need-work-at-requires Inv-loop μ-loop
+work-at-requires c κs = search needs
 
 has-requires : tie.Need-has-requires Inv-loop μ-loop
 has-requires c κs = search needs
@@ -53,6 +56,7 @@ print-bits-spec =
     say-requires
     loop-holds
     past-at-requires
+    work-at-requires
     has-requires
     print-number-requires
     add-k
