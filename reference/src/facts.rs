@@ -84,6 +84,20 @@ pub enum Fault {
     OutputFirst,
     /// The count of facts leaves out C.
     CountsNoC,
+    /// Question 4 asks whether a node is an operand exactly once.
+    ExactlyOnce,
+    /// A node that is an operand once is shared already.
+    OnceIsShared,
+    /// 10 may name a shared node.
+    TenNamesShared,
+    /// A present keeps W of shared nodes.
+    SharedKept,
+    /// In a block the code of all past nodes stands before that of shared ones.
+    PastFirst,
+    /// A mention of a shared node is decided by what the node is.
+    DecidedAnew,
+    /// The formula counts nothing for mentions of a past node after the first, and the weaver's answer and questions 12 and 13 go by it.
+    LaterMentionsFree,
 }
 
 thread_local! {
@@ -102,10 +116,11 @@ pub(crate) fn planted(fault: Fault) -> bool {
     PLANTED.with(Cell::get) == Some(fault)
 }
 
-/// T and F belong to the rule's nodes, the other five to its past nodes only.
+/// T and F belong to the rule's nodes, W to its past and shared nodes, the other four to its past nodes only.
 pub fn belongs(rule: &Rule, fact: usize, node: usize) -> bool {
     match fact {
         T | F => node < rule.len(),
+        W => rule.is_past(node) || rule.is_shared(node),
         _ => rule.is_past(node),
     }
 }
@@ -169,8 +184,8 @@ pub fn first_facts(rule: &Rule) -> Facts {
     close(rule, &s)
 }
 
-/// The node whose T or F is the next prior of node i.
-fn next_prior_node(rule: &Rule, i: usize) -> usize {
+/// The node whose value now is what W says of node i's work bit: it is the next prior of a past node, and the value now of a shared one.
+fn worked_out(rule: &Rule, i: usize) -> usize {
     if rule.nodes[i].kind == 5 {
         rule.nodes[i].left as usize
     } else {
@@ -221,7 +236,7 @@ fn pass_open(rule: &Rule, line: &Line, s: Facts) -> (Option<Facts>, Option<Facts
         8 => {
             let mut n = Facts::none();
             for i in rule.past_nodes() {
-                let k = next_prior_node(rule, i);
+                let k = worked_out(rule, i);
                 if s.has(T, k) {
                     n.add(A, i);
                 }
@@ -232,11 +247,14 @@ fn pass_open(rule: &Rule, line: &Line, s: Facts) -> (Option<Facts>, Option<Facts
                     n.add(C, i);
                 }
             }
+            if planted(Fault::SharedKept) {
+                rule.shared_nodes().into_iter().filter(|&i| s.has(W, i)).for_each(|i| n.add(W, i));
+            }
             (None, Some(n))
         }
         9 => {
             let mut n = s;
-            let k = next_prior_node(rule, c);
+            let k = worked_out(rule, c);
             n.drop(W, c);
             n.drop(C, c);
             if (line.r == 1 && s.has(T, k)) || (line.r == 0 && s.has(F, k)) {
@@ -257,7 +275,7 @@ fn pass_open(rule: &Rule, line: &Line, s: Facts) -> (Option<Facts>, Option<Facts
         }
         11 => {
             let (mut yes, mut not) = (s, s);
-            let k = next_prior_node(rule, c);
+            let k = worked_out(rule, c);
             if s.has(W, c) {
                 yes.add(T, k);
                 not.add(F, k);

@@ -16,15 +16,38 @@ fn leaf(g: &mut Rng) -> Node {
     }
 }
 
-/// A rule of n nodes, in any order that question 3 allows.
+/// An operand of node i: one that is not used yet, or, if nodes are used again, any lower one, often.
+fn operand(g: &mut Rng, i: usize, unused: &mut Vec<u8>, again: bool) -> Option<u8> {
+    if again && i > 0 && g.chance(1, 2) {
+        let any = g.below(i) as u8;
+        unused.retain(|&u| u != any);
+        return Some(any);
+    }
+    if unused.is_empty() {
+        None
+    } else {
+        Some(unused.swap_remove(g.below(unused.len())))
+    }
+}
+
+/// A rule of n nodes, in any order that question 3 allows, in which each but the last is an operand once.
 pub fn rule(g: &mut Rng, n: usize) -> Rule {
+    table(g, n, false)
+}
+
+/// The same, in which nodes are operands again and again.
+pub fn sharing_rule(g: &mut Rng, n: usize) -> Rule {
+    table(g, n, true)
+}
+
+fn table(g: &mut Rng, n: usize, again: bool) -> Rule {
     let mut nodes: Vec<Node> = vec![];
     let mut unused: Vec<u8> = vec![];
     for i in 0..n {
         let left_after = n - i - 1;
         loop {
             let mut rest = unused.clone();
-            let mut take = |g: &mut Rng| if rest.is_empty() { None } else { Some(rest.swap_remove(g.below(rest.len()))) };
+            let mut take = |g: &mut Rng| operand(g, i, &mut rest, again);
             let node = match g.below(10) {
                 0..=2 => Some(leaf(g)),
                 k @ 3..=8 => take(g).and_then(|l| take(g).map(|r| Node::new(if k < 6 { 3 } else { 4 }, 0, 0, l, r))),

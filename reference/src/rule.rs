@@ -55,12 +55,13 @@ impl Node {
     }
 
     /// The operand numbers, left before right; the same number twice if both are the same.
-    pub fn operands(&self) -> Vec<usize> {
-        match self.kind {
-            3 | 4 => vec![self.left as usize, self.right as usize],
-            5 => vec![self.left as usize],
-            _ => vec![],
-        }
+    pub fn operands(&self) -> impl Iterator<Item = usize> {
+        let places = match self.kind {
+            3 | 4 => [Some(self.left), Some(self.right)],
+            5 => [Some(self.left), None],
+            _ => [None, None],
+        };
+        places.into_iter().flatten().map(usize::from)
     }
 
     fn unused_fields_zero(&self) -> bool {
@@ -88,6 +89,28 @@ impl Node {
     }
 }
 
+/// How many times number i stands where one of these nodes has an operand.
+fn mentions(nodes: &[Node], i: usize) -> usize {
+    nodes.iter().flat_map(Node::operands).filter(|&o| o == i).count()
+}
+
+fn past(nodes: &[Node], i: usize) -> bool {
+    nodes.get(i).is_some_and(Node::is_past)
+}
+
+/// A node that is an operand twice or more and that is no past node.
+fn shared(nodes: &[Node], i: usize) -> bool {
+    let least = if planted(Fault::OnceIsShared) { 1 } else { 2 };
+    !past(nodes, i) && mentions(nodes, i) >= least
+}
+
+/// Whether a line's opcode 9 to 12 may name node i of these nodes: kept bits are asked and set of past nodes (10, 12), work bits of past
+/// and of shared ones (9, 11).
+pub fn may_name(nodes: &[Node], op: u8, i: usize) -> bool {
+    let work = matches!(op, 9 | 11) || op == 10 && planted(Fault::TenNamesShared);
+    past(nodes, i) || work && shared(nodes, i)
+}
+
 /// A rule that has passed questions 1 to 4.
 #[derive(Clone, Debug, PartialEq, Eq)]
 pub struct Rule {
@@ -109,13 +132,13 @@ pub fn check_rule(words: &[u32]) -> Result<Rule, No> {
     }
     // 3. Are operands lower than their node?
     for (i, n) in rule.nodes.iter().enumerate() {
-        if n.operands().iter().any(|&o| o >= i) {
+        if n.operands().any(|o| o >= i) {
             return no(3, i);
         }
     }
-    // 4. Is each node but the last an operand exactly once?
+    // 4. Is each node but the last an operand at least once?
     for i in 0..rule.last() {
-        if rule.uses(i) != 1 {
+        if rule.uses(i) == 0 || planted(Fault::ExactlyOnce) && rule.uses(i) > 1 {
             return no(4, i);
         }
     }
@@ -146,17 +169,35 @@ impl Rule {
         self.nodes.iter().map(Node::encode).collect()
     }
 
-    /// How many times node i is an operand.
+    /// How many times node i is an operand, by operand places: `implies 0 0` uses node 0 twice.
     pub fn uses(&self, i: usize) -> usize {
-        self.nodes.iter().map(|n| n.operands().iter().filter(|&&o| o == i).count()).sum()
+        mentions(&self.nodes, i)
     }
 
     pub fn is_past(&self, i: usize) -> bool {
-        i < self.len() && self.nodes[i].is_past()
+        past(&self.nodes, i)
+    }
+
+    /// Each shared node has a work bit and the fact W, as each past node has: here the work bit is its value now.
+    pub fn is_shared(&self, i: usize) -> bool {
+        shared(&self.nodes, i)
+    }
+
+    fn nodes_that(&self, are: impl Fn(usize) -> bool) -> Vec<usize> {
+        (0..self.len()).filter(|&i| are(i)).collect()
     }
 
     pub fn past_nodes(&self) -> Vec<usize> {
-        (0..self.len()).filter(|&i| self.is_past(i)).collect()
+        self.nodes_that(|i| self.is_past(i))
+    }
+
+    pub fn shared_nodes(&self) -> Vec<usize> {
+        self.nodes_that(|i| self.is_shared(i))
+    }
+
+    /// Past and shared nodes, in one rising order.
+    pub fn work_nodes(&self) -> Vec<usize> {
+        self.nodes_that(|i| self.is_past(i) || self.is_shared(i))
     }
 
     /// Truth of node i at index n of a history: the table of kinds, read literally.
@@ -201,9 +242,13 @@ impl Rule {
         self.truth_table(&all)[self.last()][history.len()]
     }
 
-    /// The formula for the lines of a block.
+    /// The formula for the lines of a block: 3 more for each shared node, 2 for each mention of it, and 2 for each mention of a past
+    /// node after the first.
     pub fn block_lines(&self) -> usize {
         let count = |kinds: &[u8]| self.nodes.iter().filter(|n| kinds.contains(&n.kind)).count();
-        1 + 2 * count(&[1, 2, 6]) + count(&[0]) + 8 * count(&[4]) + 6 * count(&[5])
+        let of_shared: usize = self.shared_nodes().iter().map(|&i| 3 + 2 * self.uses(i)).sum();
+        let of_past: usize = self.past_nodes().iter().map(|&i| 2 * self.uses(i).saturating_sub(1)).sum();
+        let later = if planted(Fault::LaterMentionsFree) { 0 } else { of_past };
+        1 + 2 * count(&[1, 2, 6]) + count(&[0]) + 8 * count(&[4]) + 6 * count(&[5]) + of_shared + later
     }
 }

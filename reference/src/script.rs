@@ -1,6 +1,6 @@
 //! Lines of a script and questions 5 to 11.
 use crate::facts::{all_facts, close, first_facts, pass, Facts, T};
-use crate::rule::{check_rule, Node, Rule};
+use crate::rule::{check_rule, may_name, Node, Rule};
 use crate::{no, No};
 
 pub const MOST_LINES: usize = 1024;
@@ -63,10 +63,11 @@ pub fn annotated_opcode(op: u8) -> bool {
     op <= 14
 }
 
-/// Question 6 for one line: opcode allowed, unused fields zero, register in c at most 15, node in c a past node, set bit 0 or 1.
+/// Question 6 for one line: opcode allowed, unused fields zero, register in c at most 15, node in c one that the opcode may name, set bit
+/// 0 or 1.
 pub fn fields_allowed(nodes: &[Node], opcode_allowed: fn(u8) -> bool, l: &Line) -> bool {
     let (r0, c0, t0) = (l.r == 0, l.c == 0, l.target == 0);
-    let past = nodes.get(l.c as usize).is_some_and(Node::is_past);
+    let named = || may_name(nodes, l.op, l.c as usize);
     opcode_allowed(l.op)
         && match l.op {
             0 | 8 => r0 && c0 && t0,
@@ -75,9 +76,9 @@ pub fn fields_allowed(nodes: &[Node], opcode_allowed: fn(u8) -> bool, l: &Line) 
             4 => c0 && t0,
             5 | 6 => true,
             7 => r0 && c0,
-            9 => t0 && l.r <= 1 && past,
-            10 | 11 => r0 && past,
-            12 => r0 && t0 && past,
+            9 => t0 && l.r <= 1 && named(),
+            10 | 11 => r0 && named(),
+            12 => r0 && t0 && named(),
             13 => l.c <= 15,
             _ => false,
         }
@@ -85,7 +86,8 @@ pub fn fields_allowed(nodes: &[Node], opcode_allowed: fn(u8) -> bool, l: &Line) 
 
 /// Questions 6 and 7.
 fn check_code(rule: &Rule, opcode_allowed: fn(u8) -> bool, lines: &[Line]) -> Result<(), No> {
-    // 6. Opcodes allowed, unused fields zero, register in c at most 15, node in c a past node, set bit 0 or 1?
+    // 6. Opcodes allowed, unused fields zero, register in c at most 15, node in c a past node (for 9 and 11 also a shared one), set
+    // bit 0 or 1?
     for (i, l) in lines.iter().enumerate() {
         if !fields_allowed(&rule.nodes, opcode_allowed, l) {
             return no(6, i);

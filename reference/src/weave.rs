@@ -1,5 +1,5 @@
 //! The weaver, with labels: the line count is found by writing, not by the formula.
-use crate::facts::{Facts, A, B, C, F, M, T, W};
+use crate::facts::{planted, Facts, Fault, A, B, C, F, M, T, W};
 use crate::rule::Rule;
 use crate::script::{check_bare, encode_lines, Line, MOST_LINES};
 use crate::{no, No};
@@ -32,30 +32,38 @@ impl Writer<'_> {
         self.put(facts, 7, 0, 0, Some(to));
     }
 
-    /// Deciding node i towards two places, from the facts `g`.
+    /// Node i by one branch: to the true place, then a go to the false place with F of the node.
+    fn leaf(&mut self, i: usize, g: Facts, (op, r, c): (u8, u8, u16), yes: Label, not: Label) {
+        self.put(g, op, r, c, Some(yes));
+        self.go(g.with(F, i), not);
+    }
+
+    /// Deciding node i by what it is towards two places, from the facts `g`.
     fn decide(&mut self, i: usize, g: Facts, yes: Label, not: Label) {
         let d = self.rule.nodes[i];
         if let Some(op) = d.branch() {
-            self.put(g, op, d.register, d.constant, Some(yes));
-            return self.go(g.with(F, i), not);
+            return self.leaf(i, g, (op, d.register, d.constant), yes, not);
         }
         match d.kind {
             0 => self.go(g, not),
             3 => {
                 let code_for_right = self.label();
-                self.decide(d.left as usize, g, code_for_right, yes);
+                self.mention(d.left as usize, g, code_for_right, yes);
                 self.here(code_for_right);
-                self.decide(d.right as usize, g.with(T, d.left as usize), yes, not);
+                self.mention(d.right as usize, g.with(T, d.left as usize), yes, not);
             }
-            4 => {
-                self.put(g, 11, 0, i as u16, Some(yes));
-                self.go(g.with(F, i), not);
-            }
-            5 => {
-                self.put(g, 10, 0, i as u16, Some(yes));
-                self.go(g.with(F, i), not);
-            }
+            4 => self.leaf(i, g, (11, 0, i as u16), yes, not),
+            5 => self.leaf(i, g, (10, 0, i as u16), yes, not),
             _ => unreachable!(),
+        }
+    }
+
+    /// Node i where it is an operand: a shared node has been worked out and is decided by its work bit.
+    fn mention(&mut self, i: usize, g: Facts, yes: Label, not: Label) {
+        if self.rule.is_shared(i) && !planted(Fault::DecidedAnew) {
+            self.leaf(i, g, (11, 0, i as u16), yes, not);
+        } else {
+            self.decide(i, g, yes, not);
         }
     }
 
@@ -70,6 +78,35 @@ impl Writer<'_> {
         self.here(past);
     }
 
+    /// The code of a past or shared node, from the facts `g`: after it, its work bit is as W says.
+    fn work(&mut self, i: usize, g: Facts) {
+        let d = self.rule.nodes[i];
+        let (l, r) = (d.left as usize, d.right as usize);
+        let (set, clear) = (self.label(), self.label());
+        match d.kind {
+            4 => {
+                let right_false = self.label();
+                self.mention(r, g, set, right_false);
+                self.here(right_false);
+                let gf = g.with(F, r);
+                let code_for_left = self.label();
+                self.put(gf, 10, 0, i as u16, Some(code_for_left));
+                self.go(gf.with(B, i), clear);
+                self.here(code_for_left);
+                self.mention(l, gf.with(A, i), set, clear);
+                self.set_lines(i, g, i, set, clear);
+            }
+            5 => {
+                self.mention(l, g, set, clear);
+                self.set_lines(i, g, l, set, clear);
+            }
+            _ => {
+                self.decide(i, g, set, clear);
+                self.set_lines(i, g, i, set, clear);
+            }
+        }
+    }
+
     fn block(&mut self) {
         let rule = self.rule;
         // M of all past nodes, W of the nodes done
@@ -77,25 +114,12 @@ impl Writer<'_> {
         for i in rule.past_nodes() {
             g.add(M, i);
         }
-        for i in rule.past_nodes() {
-            let d = rule.nodes[i];
-            let (l, r) = (d.left as usize, d.right as usize);
-            let (set, clear) = (self.label(), self.label());
-            if d.kind == 4 {
-                let right_false = self.label();
-                self.decide(r, g, set, right_false);
-                self.here(right_false);
-                let gf = g.with(F, r);
-                let code_for_left = self.label();
-                self.put(gf, 10, 0, i as u16, Some(code_for_left));
-                self.go(gf.with(B, i), clear);
-                self.here(code_for_left);
-                self.decide(l, gf.with(A, i), set, clear);
-                self.set_lines(i, g, i, set, clear);
-            } else {
-                self.decide(l, g, set, clear);
-                self.set_lines(i, g, l, set, clear);
-            }
+        let mut order = rule.work_nodes();
+        if planted(Fault::PastFirst) {
+            order.sort_by_key(|&i| rule.is_shared(i));
+        }
+        for i in order {
+            self.work(i, g);
             g.add(W, i);
         }
         let (present, past) = (self.label(), self.label());
@@ -141,7 +165,10 @@ pub fn weave_lines(rule: &Rule, bare: &[Line]) -> (Vec<Line>, Vec<usize>) {
 /// Questions 1 to 7, 12 and 13; writes eight words a line; answers the line count.
 pub fn weave(rule: &[u32], bare: &[u32], output: &mut [u32]) -> Result<usize, No> {
     let (rule, bare) = check_bare(rule, bare)?;
-    let (lines, _) = weave_lines(&rule, &bare);
+    let (mut lines, _) = weave_lines(&rule, &bare);
+    if planted(Fault::LaterMentionsFree) {
+        lines.truncate(bare.iter().map(|l| if l.op == 8 { rule.block_lines() } else { 1 }).sum());
+    }
     // 12. At most 1,024 lines?
     if lines.len() > MOST_LINES {
         return no(12, 0);

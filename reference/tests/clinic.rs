@@ -27,6 +27,20 @@ const LISTING: &str = "lines 16
 15 7 0 0 0
 ";
 
+/// "present, halt", woven for false, implies 0 0.
+const TRUE_LISTING: &str = "lines 10
+0 7 0 0 3
+1 9 1 0 0
+2 7 0 0 4
+3 9 0 0 0
+4 11 0 0 6
+5 7 0 0 8
+6 11 0 0 8
+7 7 0 0 9
+8 8 0 0 0
+9 0 0 0 0
+";
+
 /// Register 1 = 1 since register 2 = 1.
 const SINCE: [u32; 3] = [0x2200_0800, 0x2400_0800, 0x8000_0002];
 
@@ -60,7 +74,8 @@ fn rules() {
     assert_eq!(refusal(check_rule(&SINCE)), None);
     assert_eq!(refusal(check_rule(&[])), Some((1, 0)));
     assert_eq!(refusal(check_rule(&[0x6000_0000])), Some((3, 0)));
-    assert_eq!(refusal(check_rule(&[0, 0x6000_0000])), Some((4, 0)));
+    // 2026-06: false, implies 0 0
+    assert_eq!(refusal(check_rule(&[0, 0x6000_0000])), None);
 }
 
 #[test]
@@ -182,7 +197,10 @@ fn the_listing() {
         (&[1, 0, 0], "refused 5 0\n"),
         (&[1, 0, 1025], "refused 5 0\n"),
         (&[1, 0x6000_0000, 1025], "refused 3 0\n"),
-        (&[2, 0, 0x6000_0000], "refused 4 0\n"),
+        (&[2, 0, 0x6000_0000], "refused 5 0\n"),
+        (&[2, 0, 0], "refused 4 0\n"),
+        // false, implies 0 0, and one present: the false's code, then two mentions
+        (&[2, 0, 0x6000_0000, 2, 8 << 28, 0], TRUE_LISTING),
     ] {
         assert_eq!(listing(&bytes(words)), want);
     }

@@ -42,14 +42,17 @@ fn tone() -> Vec<Line> {
     weave_lines(&check_rule(&SINCE).unwrap(), &bare).0
 }
 
+/// Rules in which each node is an operand once, and rules with shared nodes.
+const RULES: [fn(&mut Rng, usize) -> Rule; 2] = [generate::rule, generate::sharing_rule];
+
 /// A woven script stripped of its facts is found to have them, and more.
 #[test]
 fn woven_scripts() {
     let mut g = Rng(1);
     let mut more = 0;
-    for _ in 0..400 {
+    for k in 0..800 {
         let size = generate::rule_size(&mut g);
-        let rule = generate::rule(&mut g, size);
+        let rule = RULES[k % 2](&mut g, size);
         let n = g.within(1, 20);
         let woven = weave_lines(&rule, &generate::bare(&mut g, &rule, n)).0;
         if woven.len() <= 1024 {
@@ -58,7 +61,7 @@ fn woven_scripts() {
             more += (found != woven) as u32;
         }
     }
-    assert!(more > 300, "{more}");
+    assert!(more > 600, "{more}");
 }
 
 #[test]
@@ -155,7 +158,7 @@ fn questions_in_order() {
     assert_eq!(asked(&[], &[], 0), no(1, 0));
     assert_eq!(asked(&[7 << 29], &[], 0), no(2, 0));
     assert_eq!(asked(&[3 << 29], &[], 0), no(3, 0));
-    assert_eq!(asked(&[0, 3 << 29], &[], 0), no(4, 0));
+    assert_eq!(asked(&[0, 0, 3 << 29], &[], 0), no(4, 1));
     assert_eq!(asked(&SINCE, &[], 0), no(5, 0));
     assert_eq!(asked(&SINCE, &[0; 1025], 8 * 1025), no(5, 0));
     assert!(asked(&SINCE, &[0; 1024], 8 * 1024).is_ok());
@@ -234,17 +237,19 @@ fn every_choice(choices: &[Vec<Facts>], lines: &mut [Line], at: usize, put: &mut
 }
 
 /// Instructions that have to do with a rule, in a script of n lines: halt, input into register 1, the rule's tests, gos, present, and
-/// the bits of its past nodes, with every target.
+/// the bits of its past and shared nodes, with every target.
 fn alphabet(rule: &Rule, n: u16) -> Vec<Line> {
     let mut all = vec![HALT, line(4, 1, 0, 0), PRESENT];
     for target in 0..n {
         all.push(go(target));
         all.extend(rule.nodes.iter().filter_map(|d| d.branch().map(|op| line(op, d.register, d.constant, target))));
-        all.extend(rule.past_nodes().iter().flat_map(|&i| [line(10, 0, i as u16, target), line(11, 0, i as u16, target)]));
+        all.extend(rule.past_nodes().iter().map(|&i| line(10, 0, i as u16, target)));
+        all.extend(rule.work_nodes().iter().map(|&i| line(11, 0, i as u16, target)));
     }
-    for i in rule.past_nodes() {
-        all.extend([line(9, 0, i as u16, 0), line(9, 1, i as u16, 0), line(12, 0, i as u16, 0)]);
+    for i in rule.work_nodes() {
+        all.extend([line(9, 0, i as u16, 0), line(9, 1, i as u16, 0)]);
     }
+    all.extend(rule.past_nodes().iter().map(|&i| line(12, 0, i as u16, 0)));
     all
 }
 
@@ -261,11 +266,11 @@ fn every_script(rule: &Rule, n: usize) -> Vec<Vec<Line>> {
 
 /// Every script of the alphabet, and every annotation of it: all sets of facts that belong at every line, at line 0 those among the
 /// first facts (question 9 refuses the others). Rules of one node have up to four lines, an implies
-/// up to three, a past node two.
+/// up to three, a past node or two shared ones two.
 #[test]
 fn every_annotation_of_every_small_script() {
     let (a, b) = (0x2200_0800, 0x2400_0800);
-    let rules: [(&[u32], usize); 8] = [
+    let rules: [(&[u32], usize); 12] = [
         (&[0], 4),
         (&[a], 4),
         (&[0xc200_1000], 4),
@@ -274,6 +279,11 @@ fn every_annotation_of_every_small_script() {
         (&[a, 5 << 29], 2),
         (&[0, 5 << 29], 2),
         (&SINCE, 2),
+        // a shared test, a shared implies of a shared test, a shared test and a shared false under a since
+        (&[a, 3 << 29], 3),
+        (&[a, 3 << 29, 3 << 29 | 1 << 6 | 1 << 1], 2),
+        (&[a, 4 << 29], 2),
+        (&[0, 4 << 29], 2),
     ];
     for (words, most) in rules {
         let rule = check_rule(words).unwrap();
@@ -327,15 +337,17 @@ fn every_obeying(rule: &Rule, lines: &mut [Line], at: usize, left: &mut u32, put
     true
 }
 
-/// Random scripts of the alphabet, two to five lines, for random rules of one to three nodes, and for each every annotation that obeys
-/// questions 8, 9 and 11, unless there are too many. Put together they are the largest facts, so that 19's place is looked up as well.
+/// Random scripts of the alphabet, two to five lines, for random rules of one to three nodes, or two to four with nodes used again, and
+/// for each every annotation that obeys questions 8, 9 and 11, unless there are too many. Put together they are the largest facts, so that
+/// 19's place is looked up as well.
 #[test]
 fn every_obeying_annotation_of_random_scripts() {
     let mut g = Rng(5);
-    let (mut seen, mut too_many) = (Seen::default(), 0);
-    while seen.scripts < 4_000 {
-        let size = g.within(1, 3);
-        let rule = generate::rule(&mut g, size);
+    let (mut seen, mut too_many, mut shared) = (Seen::default(), 0, 0);
+    while seen.scripts < 8_000 {
+        let again = seen.scripts as usize % 2;
+        let size = g.within(1, 3) + again;
+        let rule = RULES[again](&mut g, size);
         let n = g.within(2, 5);
         let instructions = alphabet(&rule, n as u16);
         let mut lines: Vec<Line> = (0..n).map(|_| g.pick(&instructions)).collect();
@@ -350,6 +362,7 @@ fn every_obeying_annotation_of_random_scripts() {
             continue;
         }
         seen.script(&answer);
+        shared += lines.iter().any(|l| matches!(l.op, 9 | 11) && rule.is_shared(l.c as usize)) as u32;
         for lines in &noted {
             seen.annotation(&rule.words(), lines, &answer);
             for (t, l) in together.iter_mut().zip(lines) {
@@ -363,6 +376,6 @@ fn every_obeying_annotation_of_random_scripts() {
             }
         }
     }
-    println!("{seen:?}, too many annotations {too_many}");
-    assert!(seen.found > 300 && seen.refused > 300 && seen.accepted > 10_000);
+    println!("{seen:?}, too many annotations {too_many}, with shared nodes' bits {shared}");
+    assert!(seen.found > 600 && seen.refused > 600 && seen.accepted > 20_000 && shared > 500);
 }

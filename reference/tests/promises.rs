@@ -4,17 +4,20 @@ use reference::judge::{first_false_direct, first_false_kept, states};
 use reference::machine::{fresh, run, Stop};
 use reference::plain;
 use reference::random::Rng;
-use reference::rule::{check_rule, Node};
+use reference::rule::{check_rule, Node, Rule};
 use reference::script::{check_script, encode_lines, Line};
 use reference::weave::weave_lines;
 use reference::State;
 
+/// Rules in which each node is an operand once, and rules with shared nodes.
+const RULES: [fn(&mut Rng, usize) -> Rule; 2] = [generate::rule, generate::sharing_rule];
+
 #[test]
 fn one_truth_three_ways() {
     let mut g = Rng(1);
-    for _ in 0..500 {
+    for k in 0..1000 {
         let size = g.within(1, 8);
-        let rule = generate::rule(&mut g, size);
+        let rule = RULES[k % 2](&mut g, size);
         let history = generate::history(&mut g, 7);
         let table = rule.truth_table(&history);
         for n in 0..history.len() {
@@ -41,9 +44,12 @@ fn note(seen: &mut Vec<Seen>, now: Seen) {
 #[test]
 fn woven_scripts() {
     let mut g = Rng(2);
-    for _ in 0..400 {
+    let (mut shared, mut past_again) = (0, 0);
+    for k in 0..800 {
         let size = generate::rule_size(&mut g);
-        let rule = generate::rule(&mut g, size);
+        let rule = RULES[k % 2](&mut g, size);
+        shared += !rule.shared_nodes().is_empty() as u32;
+        past_again += rule.past_nodes().iter().any(|&i| rule.uses(i) > 1) as u32;
         let n = g.within(1, 20);
         let bare = generate::bare(&mut g, &rule, n);
         let woven = weave_lines(&rule, &bare).0;
@@ -80,15 +86,17 @@ fn woven_scripts() {
         let made = states(&history[..16 * m.presentations as usize]);
         assert_eq!(first_false_direct(&rule, &made), made.len());
     }
+    assert!(shared > 250 && past_again > 80, "{shared} {past_again}");
 }
 
-/// Every rule of 1 to 4 nodes over a few leaves, "input 0, input 1, present, go to 0", every input of 4 pairs of bits: woven and
+/// Every rule of 1 to 4 nodes over a few leaves, with nodes shared in every way, "input 0, input 1, present, go to 0", every input of 4 pairs of bits: woven and
 /// plain end with the same history, dials and inputs read.
 #[test]
 fn every_small_rule() {
     let leaves = [Node::new(0, 0, 0, 0, 0), Node::new(1, 0, 1, 0, 0), Node::new(2, 1, 1, 0, 0), Node::new(6, 0, 1, 0, 0)];
     let bare = [Line::new(4, 0, 0, 0), Line::new(4, 1, 0, 0), Line::new(8, 0, 0, 0), Line::new(7, 0, 0, 0)];
     let mut tables: Vec<Vec<Node>> = vec![vec![]];
+    let (mut unshared, mut shared, mut past_again) = (0, 0, 0);
     for n in 1..=4usize {
         let operands = 0..n as u8 - 1;
         let mut nodes = leaves.to_vec();
@@ -103,7 +111,13 @@ fn every_small_rule() {
         for t in &tables {
             let words: Vec<u32> = t.iter().map(Node::encode).collect();
             let Ok(rule) = check_rule(&words) else { continue };
-            let script = encode_lines(&weave_lines(&rule, &bare).0);
+            let again = rule.past_nodes().iter().any(|&i| rule.uses(i) > 1);
+            shared += !rule.shared_nodes().is_empty() as u32;
+            past_again += again as u32;
+            unshared += (rule.shared_nodes().is_empty() && !again) as u32;
+            let woven = weave_lines(&rule, &bare).0;
+            assert_eq!(woven.len(), 3 + rule.block_lines());
+            let script = encode_lines(&woven);
             for code in 0..256u32 {
                 let inputs: Vec<u16> = (0..8).map(|k| (code >> k & 1) as u16).collect();
                 let space = 16 * (1 + code as usize % 4);
@@ -122,4 +136,6 @@ fn every_small_rule() {
             }
         }
     }
+    println!("rules with no node used twice {unshared}, with shared nodes {shared}, with past nodes used twice {past_again}");
+    assert!(unshared > 0 && shared > unshared && past_again > unshared / 2);
 }

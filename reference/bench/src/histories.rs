@@ -21,7 +21,15 @@ pub const R4: &[u32] = &[
 ];
 /// Two registers equal since a third was 1.
 pub const R5: &[u32] = &[0xc400_0800, 0x2600_0800, 0x8000_0002];
-pub const RULES: [(&str, &[u32]); 5] = [("R1", R1), ("R2", R2), ("R3", R3), ("R4", R4), ("R5", R5)];
+/// 30 nodes, six of them shared (three tests of a number, a test of two registers, a false, an implies), two past nodes used twice.
+#[rustfmt::skip]
+pub const R6: &[u32] = &[
+    0x2600_0800, 0x4201_4800, 0x0000_0000, 0x6000_0044, 0x6000_00c0, 0x2400_0800, 0x8000_000a, 0xa000_0000, 0x6000_01cc,
+    0x6000_0204, 0x6000_0112, 0x6000_0284, 0xca00_3000, 0x8000_030a, 0xa000_0180, 0x6000_0398, 0x6000_00da, 0x6000_0404,
+    0x6000_03e2, 0x6000_0484, 0x4e03_2000, 0x8000_0068, 0xa000_0540, 0x6000_05aa, 0x6000_002e, 0x6000_0604, 0x6000_04f2,
+    0x6000_02f4, 0x6000_06c4, 0x8000_0700,
+];
+pub const RULES: [(&str, &[u32]); 6] = [("R1", R1), ("R2", R2), ("R3", R3), ("R4", R4), ("R5", R5), ("R6", R6)];
 
 /// Numbers about the constants of a register's tests, 0 or 1 where it is compared with another register, so that each test is true
 /// about half of the time.

@@ -5,7 +5,7 @@ mod measure;
 mod peers;
 
 use compare::proved;
-use histories::{random_history, steady_history, R1, RULES};
+use histories::{random_history, steady_history, R1, R6, RULES};
 use measure::{measure, Row, Table};
 use peers::judge::{many_at_once, one_at_a_time};
 use reference::random::Rng;
@@ -63,7 +63,7 @@ fn bare_for(block: usize, lines: usize) -> Vec<u32> {
 
 fn script_rows() -> Vec<Row> {
     let mut rows = vec![];
-    for (name, rule) in [RULES[0], RULES[3]] {
+    for (name, rule) in [RULES[0], RULES[3], RULES[5]] {
         let nodes = rule.len();
         let mut n = [0; 1];
         rows.push(Row::new(
@@ -133,6 +133,11 @@ fn tone() -> Vec<u32> {
     vec![instruction(4, 1, 0, 0), instruction(4, 2, 0, 0), instruction(8, 0, 0, 0), instruction(7, 0, 0, 0)]
 }
 
+/// The same with a third input.
+fn masked_tone() -> Vec<u32> {
+    [vec![instruction(4, 3, 0, 0)], tone()].concat()
+}
+
 fn woven(rule: &[u32], bare: &[u32]) -> Vec<u32> {
     let mut out = vec![0; 8 * 1024];
     let mut n = [0; 2];
@@ -163,13 +168,19 @@ fn run_rows() -> Vec<Row> {
     let mut g = Rng(9);
     let inputs: Vec<u16> = (0..200_000).map(|_| g.below(2) as u16).collect();
     let mut rows = vec![];
-    for (name, bare) in [("counts", count), ("raises and lowers", sweep), ("presents", present), ("reads and presents", tone())] {
-        let script = woven(R1, &bare);
+    for (name, rule, bare) in [
+        ("counts", R1, count),
+        ("raises and lowers", R1, sweep),
+        ("presents", R1, present),
+        ("reads and presents", R1, tone()),
+        ("reads and presents, with shared nodes (R6)", R6, masked_tone()),
+    ] {
+        let script = woven(rule, &bare);
         let mut n = [0; 22];
         let mut history = vec![0; 16 * 200_000];
         let mut peer_history = history.clone();
-        assert_eq!(proved::run(R1, &script, &inputs, BUDGET, &mut history, &mut n), 0);
-        let t = peers::machine::run(R1, &script, &inputs, BUDGET, &mut peer_history).ok().expect("an accepted script");
+        assert_eq!(proved::run(rule, &script, &inputs, BUDGET, &mut history, &mut n), 0);
+        let t = peers::machine::run(rule, &script, &inputs, BUDGET, &mut peer_history).ok().expect("an accepted script");
         assert_eq!(n[1..6], [t.stop, t.line as u64, t.steps, t.presentations as u64, t.read as u64]);
         assert!(n[6..] == t.registers.map(u64::from) && history == peer_history);
         let steps = n[3] as usize;
@@ -180,11 +191,11 @@ fn run_rows() -> Vec<Row> {
             steps,
             vec![
                 Box::new(move || {
-                    black_box(proved::run(R1, black_box(&script), black_box(&inputs), BUDGET, &mut history, &mut n));
+                    black_box(proved::run(rule, black_box(&script), black_box(&inputs), BUDGET, &mut history, &mut n));
                 }),
                 Box::new(move || {
                     let peer =
-                        peers::machine::run(R1, black_box(&peer_script), black_box(&peer_inputs), BUDGET, &mut peer_history);
+                        peers::machine::run(rule, black_box(&peer_script), black_box(&peer_inputs), BUDGET, &mut peer_history);
                     black_box(peer.is_ok());
                 }),
             ],
@@ -194,25 +205,25 @@ fn run_rows() -> Vec<Row> {
 }
 
 /// Steps asked for one by one, the state in lent memory.
-fn step_row() -> Row {
+fn step_row(name: &str, rule: &'static [u32], bare: &[u32]) -> Row {
     const STEPS: usize = 20_000;
     type Step = fn(&[u32], &[u32], &[u16], &mut [u16], &mut [u64]) -> u32;
     let calls = [proved::step as Step, peers::machine::step]
         .into_iter()
         .map(|step| {
-            let script = woven(R1, &tone());
+            let script = woven(rule, bare);
             let inputs = vec![1; 2 * STEPS];
             let mut history = vec![0; 16 * STEPS];
             Box::new(move || {
                 let mut state = [0; 21];
-                proved::fresh(R1, &mut state);
+                proved::fresh(rule, &mut state);
                 for _ in 0..STEPS {
-                    black_box(step(R1, &script, &inputs, &mut history, &mut state));
+                    black_box(step(rule, &script, &inputs, &mut history, &mut state));
                 }
             }) as Box<dyn FnMut()>
         })
         .collect();
-    Row::new(format!("step that reads and presents, {STEPS} calls"), "step", STEPS, calls)
+    Row::new(format!("step that {name}, {STEPS} calls"), "step", STEPS, calls)
 }
 
 /// A rule of 32 nodes, as it is typed.
@@ -305,7 +316,7 @@ fn guarded_backwards() -> Vec<u32> {
 
 fn facts_rows() -> Vec<Row> {
     let mut asked: Vec<(String, Vec<u32>, Vec<u32>)> = vec![];
-    for (name, rule) in [RULES[0], RULES[3]] {
+    for (name, rule) in [RULES[0], RULES[3], RULES[5]] {
         let block = check_rule(rule).expect("a rule").block_lines();
         for lines in [128, 256, 512, 1024] {
             if lines >= block + 3 {
@@ -351,7 +362,8 @@ fn main() {
     let mut rows = script_rows();
     rows.extend(facts_rows());
     rows.extend(run_rows());
-    rows.push(step_row());
+    rows.push(step_row("reads and presents", R1, &tone()));
+    rows.push(step_row("reads and presents, with shared nodes (R6)", R6, &masked_tone()));
     rows.extend(text_rows());
     let mut tables = [Table { peers: &["one at a time", "64 at once"], rows: judge_rows() }, Table { peers: &["peer"], rows }];
     measure(&mut tables);

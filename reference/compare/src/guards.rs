@@ -26,8 +26,23 @@ fn woven(g: &mut Rng, rule: &Rule) -> Vec<Line> {
     lines
 }
 
+/// A branch, and back to line 0 where it does not go as wanted.
+fn ask(g: &mut Rng, lines: &mut Vec<Line>, branch: Line, wanted: bool) {
+    if wanted {
+        let past = lines.len() + 2;
+        lines.extend([Line { target: past as u16, ..branch }, go(0)]);
+    } else {
+        lines.push(Line { target: 0, ..branch });
+    }
+    // a line that does nothing, or that nothing leads to
+    if g.chance(1, 40) {
+        let next = lines.len() + 1;
+        lines.push(go(next));
+    }
+}
+
 /// A guard with one way to its present. It asks each test and each kept bit, goes back to line 0 where one is not as wanted, and then
-/// knows every value, sets the work bits to them, presents, and keeps the bits.
+/// knows every value, sets the work bits to them, perhaps asks those of shared nodes, presents, and keeps the bits.
 fn straight(g: &mut Rng, rule: &Rule) -> Vec<Line> {
     // values at which the rule is true, if some are soon found
     let (mut wanted, mut values) = (vec![], vec![]);
@@ -40,30 +55,22 @@ fn straight(g: &mut Rng, rule: &Rule) -> Vec<Line> {
         }
     }
     let mut lines: Vec<Line> = (0..g.below(4)).map(|r| line(4, r as u8, 0, 0)).collect();
-    let mut asked = |g: &mut Rng, branch: Line, wanted: bool| {
-        if wanted {
-            let past = lines.len() + 2;
-            lines.extend([Line { target: past as u16, ..branch }, go(0)]);
-        } else {
-            lines.push(Line { target: 0, ..branch });
-        }
-        // a line that does nothing, or that nothing leads to
-        if g.chance(1, 40) {
-            let next = lines.len() + 1;
-            lines.push(go(next));
-        }
-    };
     for (i, d) in rule.nodes.iter().enumerate() {
         if let Some(op) = d.branch() {
-            asked(g, Line::new(op, d.register, d.constant, 0), values[i]);
+            ask(g, &mut lines, Line::new(op, d.register, d.constant, 0), values[i]);
         } else if d.is_past() {
-            asked(g, line(10, 0, i, 0), wanted[i]);
+            ask(g, &mut lines, line(10, 0, i, 0), wanted[i]);
         }
     }
-    for i in rule.past_nodes() {
+    for i in rule.work_nodes() {
         let d = rule.nodes[i];
-        let next_prior = values[if d.kind == 5 { d.left as usize } else { i }];
-        lines.push(line(9, next_prior as u8, i, 0));
+        let worked_out = values[if d.kind == 5 { d.left as usize } else { i }];
+        lines.push(line(9, worked_out as u8, i, 0));
+    }
+    for i in rule.shared_nodes() {
+        if g.chance(1, 2) {
+            ask(g, &mut lines, line(11, 0, i, 0), values[i]);
+        }
     }
     lines.push(line(PRESENT, 0, 0, 0));
     lines.extend(rule.past_nodes().iter().map(|&i| line(12, 0, i, 0)));
@@ -100,7 +107,7 @@ fn laid(g: &mut Rng, lines: &[Line]) -> Vec<Line> {
 }
 
 /// Puts a line before line `at`; targets move with their lines.
-fn insert(lines: &mut Vec<Line>, at: usize, new: Line) {
+pub fn insert(lines: &mut Vec<Line>, at: usize, new: Line) {
     for l in lines.iter_mut().filter(|l| l.uses_target() && l.target as usize >= at) {
         l.target += 1;
     }
@@ -173,6 +180,9 @@ pub fn instructions(g: &mut Rng, rule: &Rule) -> Vec<u32> {
     }
     if g.chance(1, 400) {
         lines = long_loop(g, rule);
+    }
+    if !rule.shared_nodes().is_empty() && g.chance(1, 16) {
+        requests::misname(g, rule, &mut lines);
     }
     let mut words = instruction_words(&lines);
     if g.chance(1, 8) {

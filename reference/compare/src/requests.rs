@@ -1,7 +1,7 @@
 //! Random requests: what passes every question, what is spoiled bit by bit, several faults at once, lengths one short and one
 //! long.
 use crate::{guards, texts};
-use reference::facts::{close, T};
+use reference::facts::{close, A, B, C, F, M, T, W};
 use reference::generate;
 use reference::judge::{first_priors, next_priors, values_now};
 use reference::largest::note_largest;
@@ -59,10 +59,10 @@ pub fn lengthen(g: &mut Rng, words: &mut Vec<u32>) {
     }
 }
 
-/// A rule that passes; and its words, sometimes spoiled.
-fn rule(g: &mut Rng, spoiled: usize) -> (Rule, Vec<u32>) {
+/// A rule that passes, in which nodes are used again or not; and its words, sometimes spoiled.
+fn rule(g: &mut Rng, again: bool, spoiled: usize) -> (Rule, Vec<u32>) {
     let size = generate::rule_size(g);
-    let rule = generate::rule(g, size);
+    let rule = if again { generate::sharing_rule(g, size) } else { generate::rule(g, size) };
     let mut words = rule.words();
     if g.chance(spoiled, 100) {
         match g.below(12) {
@@ -111,7 +111,7 @@ fn bare(g: &mut Rng, rule: &Rule, spoiled: usize) -> Vec<u32> {
 /// Instructions of an annotated script at random.
 pub fn instructions(g: &mut Rng, rule: &Rule) -> Vec<Line> {
     let n = g.within(1, 14);
-    let past = rule.past_nodes();
+    let (past, work) = (rule.past_nodes(), rule.work_nodes());
     let mut lines: Vec<Line> = vec![];
     for i in 0..n {
         let last = i + 1 == n;
@@ -120,15 +120,16 @@ pub fn instructions(g: &mut Rng, rule: &Rule) -> Vec<Line> {
         let c = g.below(generate::CONSTANTS) as u16;
         let op = if last { g.pick(&[0, 7]) } else { g.pick(&[1, 2, 3, 4, 5, 6, 7, 8, 8, 8, 9, 9, 10, 10, 11, 11, 12, 12, 13, 13, 14]) };
         let of_node = matches!(op, 9..=12);
-        if of_node && past.is_empty() {
+        let named = if matches!(op, 9 | 11) { &work } else { &past };
+        if of_node && named.is_empty() {
             lines.push(Line::new(7, 0, 0, target));
             continue;
         }
         // the node of the line before, often, so that its bits are set, kept and asked about in turn
         let node = match lines.last() {
             _ if !of_node => 0,
-            Some(l) if matches!(l.op, 9..=12) && g.chance(1, 2) => l.c,
-            _ => g.pick(&past) as u16,
+            Some(l) if matches!(l.op, 9..=12) && named.contains(&(l.c as usize)) && g.chance(1, 2) => l.c,
+            _ => g.pick(named) as u16,
         };
         lines.push(match op {
             0 | 8 => Line::new(op, 0, 0, 0),
@@ -165,6 +166,77 @@ fn noted_most(g: &mut Rng, rule: &Rule) -> Vec<Line> {
     lines
 }
 
+/// A line of one of these opcodes, if there is one.
+fn line_with(g: &mut Rng, lines: &[Line], ops: &[u8]) -> Option<usize> {
+    let all: Vec<usize> = (0..lines.len()).filter(|&i| ops.contains(&lines[i].op)).collect();
+    (!all.is_empty()).then(|| g.pick(&all))
+}
+
+/// A bit that the rule's nodes do not have: a shared node's kept bit, or the bit of a node that is neither past nor shared.
+pub fn misname(g: &mut Rng, rule: &Rule, lines: &mut [Line]) {
+    let shared = g.pick(&rule.shared_nodes()) as u16;
+    match g.below(4) {
+        // a line that has to do with its work bit, with its kept bit
+        0 | 1 => {
+            let of_shared: Vec<usize> =
+                (0..lines.len()).filter(|&i| matches!(lines[i].op, 9 | 11) && rule.is_shared(lines[i].c as usize)).collect();
+            if !of_shared.is_empty() {
+                let l = &mut lines[g.pick(&of_shared)];
+                (l.op, l.r) = (if l.op == 9 { 12 } else { 10 }, 0);
+            }
+        }
+        // its kept bit for a past node's
+        2 => {
+            if let Some(i) = line_with(g, lines, &[10, 12]) {
+                lines[i].c = shared;
+            }
+        }
+        _ => {
+            let node = g.below(rule.len() + 1) as u16;
+            if let Some(i) = line_with(g, lines, &[9, 11]) {
+                lines[i].c = node;
+            }
+        }
+    }
+}
+
+/// What a stranger does wrong with a shared node's bit.
+fn misuse(g: &mut Rng, rule: &Rule, lines: &mut Vec<Line>) {
+    let node = g.pick(&rule.shared_nodes());
+    let i = g.below(lines.len());
+    match g.below(12) {
+        0..=2 => misname(g, rule, lines),
+        // facts that belong to past nodes only
+        3 | 4 => lines[i].facts.add(g.pick(&[A, B, M, C]), node),
+        // W of a node that has no work bit
+        5 => lines[i].facts.add(W, g.below(rule.len())),
+        // W kept over a present
+        6 | 7 => {
+            if let Some(i) = line_with(g, lines, &[8]) {
+                let next = (i + 1).min(lines.len() - 1);
+                lines[next].facts.add(W, node);
+            }
+        }
+        // W kept over an input, which is put before a line that has W
+        8 | 9 => {
+            let knows: Vec<usize> = (1..lines.len()).filter(|&i| lines[i].facts.has(W, node)).collect();
+            if !knows.is_empty() {
+                let i = g.pick(&knows);
+                let input = Line { facts: lines[i].facts, ..Line::new(4, g.below(generate::REGISTERS) as u8, 0, 0) };
+                guards::insert(lines, i, input);
+            }
+        }
+        // the other bit set
+        10 => {
+            if let Some(i) = line_with(g, lines, &[9]) {
+                lines[i].r ^= 1;
+            }
+        }
+        // a fact that belongs, where it may not be known
+        _ => lines[i].facts.add(g.pick(&[T, F, W]), node),
+    }
+}
+
 /// An annotated script for a rule: woven, or with the most facts noted; sometimes spoiled.
 fn annotated(g: &mut Rng, rule: &Rule, spoiled: usize) -> Vec<u32> {
     let mut lines = if g.chance(1, 3) {
@@ -187,8 +259,12 @@ fn annotated(g: &mut Rng, rule: &Rule, spoiled: usize) -> Vec<u32> {
             }
         }
     }
+    let misused = !rule.shared_nodes().is_empty() && g.chance(spoiled, 200);
+    if misused {
+        misuse(g, rule, &mut lines);
+    }
     let mut words = encode_lines(&lines);
-    if g.chance(spoiled, 100) {
+    if !misused && g.chance(spoiled, 100) {
         match g.below(18) {
             0 => words.clear(),
             1 => lengthen(g, &mut words),
@@ -339,6 +415,34 @@ fn state(g: &mut Rng, rule: &Rule, lines: usize) -> Vec<u64> {
     words
 }
 
+/// A table that need not pass any question, and a line at the machine's place that names some node of it, or a number that is no node's.
+fn name_any(g: &mut Rng, rule: &mut Vec<u32>, script: &mut [u32], state: &[u64]) {
+    let c = g.below(32) as u32;
+    let mention = g.pick(&[3, 4]) << 29 | c << 6 | c << 1;
+    match g.below(4) {
+        0 | 1 if !rule.is_empty() => {
+            let i = g.below(rule.len());
+            rule[i] = mention;
+        }
+        // the last node that counts, or the first that does not
+        2 => {
+            rule.resize(g.within(31, 32), 0);
+            rule.extend([mention, 0]);
+        }
+        _ => {}
+    }
+    let (op, bit) = (g.pick(&[9, 9, 10, 11, 11, 12]), g.below(2) as u8);
+    let target = g.below(script.len() / 8 + 1) as u16;
+    let line = match op {
+        9 => Line::new(op, bit, c as u16, 0),
+        12 => Line::new(op, 0, c as u16, 0),
+        _ => Line::new(op, 0, c as u16, target),
+    };
+    if let Some(word) = state.first().and_then(|&at| script.get_mut(8 * at.min(2_000) as usize)) {
+        *word = line.word();
+    }
+}
+
 /// A text, and as many words as its nodes need, or fewer or more.
 fn text(g: &mut Rng) -> Request {
     let text = texts::text(g);
@@ -357,8 +461,8 @@ fn text(g: &mut Rng) -> Request {
 }
 
 /// Instructions without facts, and eight words a line, or fewer or more.
-fn facts(g: &mut Rng) -> Request {
-    let (table, rule) = rule(g, 8);
+fn facts(g: &mut Rng, again: bool) -> Request {
+    let (table, rule) = rule(g, again, 8);
     let instructions = guards::instructions(g, &table);
     let needed = 8 * instructions.len();
     let length = match g.below(12) {
@@ -374,34 +478,35 @@ fn facts(g: &mut Rng) -> Request {
 }
 
 /// Request number `n` of a seed: it depends on nothing else, so that a difference can be looked at again by its number. Of every eight
-/// the last is a text and the fourth asks for facts, whatever the seed: the others have kept the numbers that they had before there
-/// were such requests.
+/// the last is a text and the fourth asks for facts, whatever the seed. Of every sixteen the upper eight have rules in which nodes are used
+/// again, the lower eight rules in which none is: these have kept the numbers that they had before there were the others.
 pub fn request(seed: u64, n: u64) -> Request {
+    let again = n / 8 % 2 == 1;
     let mut g = Rng(seed ^ n.wrapping_mul(0xd134_2543_de82_ef95));
     let g = &mut g;
     g.next();
     match n % 8 {
-        3 => return facts(g),
+        3 => return facts(g, again),
         7 => return text(g),
         _ => {}
     }
     match g.below(20) {
         0 | 1 => {
-            let rule = rule(g, 70).1;
+            let rule = rule(g, again, 70).1;
             Request::Rule { rule, numbers: numbers(g, 1) }
         }
         2 | 3 => {
-            let (table, rule) = rule(g, 5);
+            let (table, rule) = rule(g, again, 5);
             let script = bare(g, &table, 60);
             Request::Bare { rule, script, numbers: numbers(g, 1) }
         }
         4..=8 => {
-            let (table, rule) = rule(g, 3);
+            let (table, rule) = rule(g, again, 3);
             let script = annotated(g, &table, 60);
             Request::Script { rule, script, numbers: numbers(g, 1) }
         }
         9..=11 => {
-            let (table, rule) = rule(g, 5);
+            let (table, rule) = rule(g, again, 5);
             let bare = bare(g, &table, 15);
             let needed = check_rule(&rule).ok().map_or(0, |t| {
                 let presents = bare.iter().filter(|&&w| w >> 28 == 8).count();
@@ -419,23 +524,23 @@ pub fn request(seed: u64, n: u64) -> Request {
             Request::Weave { rule, bare, out, numbers: numbers(g, 2) }
         }
         12 | 13 => {
-            let (table, rule) = rule(g, 5);
+            let (table, rule) = rule(g, again, 5);
             let history = history(g, &table, 30);
             Request::Judge { rule, history, numbers: numbers(g, 4) }
         }
         14..=16 => {
-            let (table, rule) = rule(g, 2);
+            let (table, rule) = rule(g, again, 2);
             let script = annotated(g, &table, 8);
             let inputs = inputs(g, 8);
             Request::Run { rule, script, inputs, budget: budget(g), history: lent_history(g), numbers: numbers(g, 22) }
         }
         17 => {
-            let rule = rule(g, 50).1;
+            let rule = rule(g, again, 50).1;
             Request::Fresh { rule, state: numbers(g, 21) }
         }
         _ => {
-            let (table, rule) = rule(g, 30);
-            let script = annotated(g, &table, 30);
+            let (table, mut rule) = rule(g, again, 30);
+            let mut script = annotated(g, &table, 30);
             let inputs = inputs(g, 20);
             let state = if g.chance(1, 2) {
                 let mut words = vec![0; 21];
@@ -444,6 +549,9 @@ pub fn request(seed: u64, n: u64) -> Request {
             } else {
                 state(g, &table, script.len() / 8)
             };
+            if again && g.chance(1, 6) {
+                name_any(g, &mut rule, &mut script, &state);
+            }
             Request::Steps { rule, script, inputs, history: lent_history(g), state, count: g.within(1, 30) }
         }
     }

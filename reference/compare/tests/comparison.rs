@@ -3,17 +3,19 @@
 use compare::compare::{compare, put, Met};
 use compare::requests::{request, Request};
 use compare::{faced, proved};
-use reference::facts::{all_facts, first_facts, pass, with_planted_fault, Facts, Fault, T};
+use reference::facts::{all_facts, first_facts, pass, with_planted_fault, Facts, Fault, A, B, C, M, T, W};
 use reference::judge::{first_priors, judge, next_priors, states, values_now};
 use reference::largest::find_facts;
 use reference::rule::{check_rule, Rule};
 use reference::script::{check_bare, check_instructions, check_script, Line};
+use reference::weave::weave;
+use reference::No;
 use std::cmp::Ordering;
 use std::collections::{BTreeMap, BTreeSet};
 use std::env;
 
 const SEED: u64 = 20_261_115;
-const REQUESTS: u64 = 600_000;
+const REQUESTS: u64 = 1_200_000;
 
 fn number(name: &str, otherwise: u64) -> u64 {
     env::var(name).map_or(otherwise, |text| text.parse().unwrap_or_else(|_| panic!("{name} is a number")))
@@ -66,6 +68,13 @@ fn planted_faults_are_noticed() {
         Fault::StartsWithoutC,
         Fault::OutputFirst,
         Fault::CountsNoC,
+        Fault::ExactlyOnce,
+        Fault::OnceIsShared,
+        Fault::TenNamesShared,
+        Fault::SharedKept,
+        Fault::PastFirst,
+        Fault::DecidedAnew,
+        Fault::LaterMentionsFree,
     ] {
         let mut met = Met::default();
         let noticed = (0..REQUESTS).find(|&n| {
@@ -153,7 +162,7 @@ fn ends_met(rule: &[u32], script: &[u32], inputs: &[u16], mut history: Vec<u16>,
 #[test]
 fn registers_meet_their_ends() {
     let mut met: BTreeMap<&str, u32> = BTreeMap::new();
-    for n in 0..100_000 {
+    for n in 0..200_000 {
         let names = match request(SEED, n) {
             Request::Bare { rule, script, .. } => match check_bare(&rule, &script) {
                 Ok(_) if script.iter().any(|w| w >> 28 == 14) => vec!["a bare script with a 14"],
@@ -319,6 +328,182 @@ fn facts_meet_their_cases() {
     }
     println!("{met:#?}");
     assert!(met.len() == 17 && met.values().all(|&n| n >= 10), "{met:?}");
+}
+
+/// What a table meets that passes.
+fn table_met(rule: &Rule) -> Vec<&'static str> {
+    let (shared, past) = (rule.shared_nodes(), rule.past_nodes());
+    let uses: Vec<usize> = (0..rule.len()).map(|i| rule.uses(i)).collect();
+    let of_kind = |kinds: &[u8]| shared.iter().any(|&i| kinds.contains(&rule.nodes[i].kind));
+    let twice_by_one = |&i: &usize| rule.nodes.iter().any(|d| d.operands().filter(|&o| o == i).count() == 2);
+    let followed = |first: &[usize], second: &[usize]| first.iter().any(|i| second.iter().any(|j| i < j));
+    let cases = [
+        ("no node used twice", uses.iter().all(|&n| n < 2)),
+        ("a shared test of a number", of_kind(&[1, 2])),
+        ("a shared test of two registers", of_kind(&[6])),
+        ("a shared implies", of_kind(&[3])),
+        ("a shared false", of_kind(&[0])),
+        ("a node used three times or more", shared.iter().any(|&i| uses[i] > 2)),
+        ("a node that is both operands of one", shared.iter().any(twice_by_one)),
+        ("a since used twice or more", past.iter().any(|&i| rule.nodes[i].kind == 4 && uses[i] > 1)),
+        ("a weak previous used twice or more", past.iter().any(|&i| rule.nodes[i].kind == 5 && uses[i] > 1)),
+        ("a past node used twice and none shared", shared.is_empty() && past.iter().any(|&i| uses[i] > 1)),
+        ("a past node as the last one, shared ones below", rule.is_past(rule.last()) && !shared.is_empty()),
+        ("shared nodes before and after past ones", followed(&shared, &past) && followed(&past, &shared)),
+        ("32 nodes, shared ones among them", rule.len() == 32 && !shared.is_empty()),
+    ];
+    cases.into_iter().filter(|case| case.1).map(|case| case.0).collect()
+}
+
+/// What the refusal of lines meets that have to do with a shared node's bits.
+fn refused_met(rule: &Rule, lines: &[Line], refusal: No) -> Option<&'static str> {
+    let l = lines[refusal.place];
+    let (shared, past) = (rule.is_shared(l.c as usize), rule.is_past(l.c as usize));
+    // facts of shared nodes alone
+    let only = |fact: usize, facts: Facts| {
+        let nodes: u32 = rule.shared_nodes().iter().map(|&i| 1 << (31 - i)).sum();
+        facts.set[fact] != 0 && facts.set[fact] & !nodes == 0 && (0..7).all(|k| k == fact || facts.set[k] == 0)
+    };
+    let beyond = |noted: Facts, allowed: Facts| Facts { set: std::array::from_fn(|k| noted.set[k] & !allowed.set[k]) };
+    match refusal.number {
+        6 => match l.op {
+            10 if shared => Some("6 for a 10 on a shared node"),
+            12 if shared => Some("6 for a 12 on a shared node"),
+            9 | 11 if l.c < rule.len() as u16 && !shared && !past => Some("6 for a 9 or 11 on a node that is neither"),
+            _ => None,
+        },
+        8 => {
+            let stray = beyond(l.facts, all_facts(rule));
+            match (0..7).find(|&fact| only(fact, stray)) {
+                Some(A) => Some("8 for A of a shared node"),
+                Some(B) => Some("8 for B of a shared node"),
+                Some(M) => Some("8 for M of a shared node"),
+                Some(C) => Some("8 for C of a shared node"),
+                _ if (0..7).all(|k| k == W || stray.set[k] == 0) => Some("8 for W of a node that has no work bit"),
+                _ => None,
+            }
+        }
+        11 => {
+            let passed = pass(rule, &l).next?;
+            let missing = beyond(lines[refusal.place + 1].facts, passed);
+            match l.op {
+                1..=4 | 14 if only(W, missing) => Some("11 for W of a shared node kept over a register write"),
+                8 if only(W, missing) => Some("11 for W of a shared node kept over a present"),
+                9 if shared && missing.has(W, l.c as usize) => Some("11 for a shared node's bit set wrongly"),
+                11 if shared => Some("11 for what a shared node's bit does not tell"),
+                _ => None,
+            }
+        }
+        _ => None,
+    }
+}
+
+/// What lines meet that are accepted, or that largest facts are found for.
+fn accepted_met(rule: &Rule, lines: &[Line]) -> Vec<&'static str> {
+    let named = |op: u8| lines.iter().any(|l| l.op == op && rule.is_shared(l.c as usize));
+    let known = |op: u8| lines.iter().any(|l| l.op == op && rule.shared_nodes().iter().any(|&i| l.facts.has(W, i)));
+    let cases = [
+        ("a 9 on a shared node passes", named(9)),
+        ("an 11 on a shared node passes", named(11)),
+        ("W of a shared node at a present", known(8)),
+        ("W of a shared node at an input", known(4)),
+    ];
+    cases.into_iter().filter(|case| case.1).map(|case| case.0).collect()
+}
+
+/// The steps that have to do with the bits of nodes that are no past nodes.
+fn steps_met(rule: &[u32], script: &[u32], inputs: &[u16], mut history: Vec<u16>, mut state: Vec<u64>, count: usize) -> Vec<&'static str> {
+    let mut met = vec![];
+    let passes = check_rule(rule).is_ok();
+    for _ in 0..count {
+        let before = state.clone();
+        faced::step(rule, script, inputs, &mut history, &mut state);
+        let Some(&word) = before.first().and_then(|&at| script.get(8 * at.min(2_000) as usize)) else { break };
+        let l = Line::decode(word);
+        let is_past = rule.get(l.c as usize).is_some_and(|w| matches!(w >> 29, 4 | 5));
+        if matches!(l.op, 9 | 11) && !is_past && l.c < 32 {
+            met.push(match (state != before, passes) {
+                (true, true) => "a step that sets or asks a shared node's bit",
+                (true, false) if l.c as usize >= rule.len() => "a step that names a number mentioned twice, of no node",
+                (true, false) => "a step that names a node mentioned twice, of a table that fails",
+                (false, _) if rule.len() > 32 => "no step for what is named in a table too long",
+                (false, _) => "no step for what is named",
+            });
+        }
+        if state == before {
+            break;
+        }
+    }
+    met
+}
+
+/// What a request meets that uses or misuses a shared node's bits.
+fn sharing_met(asked: Request) -> Vec<&'static str> {
+    let shares = |table: &Rule| !table.shared_nodes().is_empty();
+    match asked {
+        Request::Script { rule, script, .. } | Request::Run { rule, script, .. } => {
+            let Some(table) = check_rule(&rule).ok().filter(shares) else { return vec![] };
+            match check_script(&rule, &script) {
+                Ok((_, lines)) => accepted_met(&table, &lines),
+                Err(no) => {
+                    let lines: Vec<Line> = script.chunks_exact(8).map(Line::decode_annotated).collect();
+                    lines.get(no.place).and_then(|_| refused_met(&table, &lines, no)).into_iter().collect()
+                }
+            }
+        }
+        Request::Facts { rule, instructions, .. } => {
+            let Some(table) = check_rule(&rule).ok().filter(shares) else { return vec![] };
+            let mut out = vec![0; 8 * instructions.len()];
+            let found = find_facts(&rule, &instructions, &mut out);
+            let lines: Vec<Line> = instructions.iter().map(|&w| Line::decode(w)).collect();
+            let named = |l: &Line, ops: [u8; 2]| ops.contains(&l.op) && table.is_shared(l.c as usize);
+            let work = lines.iter().any(|l| named(l, [9, 11]));
+            match found {
+                Ok(_) if work => vec!["facts found with a shared node's bit"],
+                Err(No { number: 19, .. }) if work => vec!["19 with a shared node's bit"],
+                Err(No { number: 6, place }) if named(&lines[place], [10, 12]) => vec!["6 for a shared node's kept bit, facts to be found"],
+                _ => vec![],
+            }
+        }
+        Request::Weave { rule, bare, mut out, .. } => {
+            if !check_rule(&rule).is_ok_and(|table| shares(&table)) {
+                return vec![];
+            }
+            match weave(&rule, &bare, &mut out) {
+                Ok(_) => vec!["woven with shared nodes"],
+                Err(No { number: 12, .. }) => vec!["12 with shared nodes"],
+                Err(No { number: 13, .. }) => vec!["13 with shared nodes"],
+                Err(_) => vec![],
+            }
+        }
+        Request::Steps { rule, script, inputs, history, state, count } => steps_met(&rule, &script, &inputs, history, state, count),
+        _ => vec![],
+    }
+}
+
+/// The requests have shared nodes in every way, used as they may be and misused.
+#[test]
+fn shared_nodes_meet_their_cases() {
+    let mut met: BTreeMap<&str, u32> = BTreeMap::new();
+    for n in 0..120_000 {
+        let asked = request(SEED, n);
+        let mut names = match &asked {
+            Request::Rule { rule, .. } | Request::Script { rule, .. } | Request::Weave { rule, .. } | Request::Judge { rule, .. } => {
+                match check_rule(rule) {
+                    Ok(rule) => table_met(&rule),
+                    Err(No { number: 4, .. }) => vec!["4 for a node that is no operand"],
+                    Err(_) => vec![],
+                }
+            }
+            _ => vec![],
+        };
+        names.extend(sharing_met(asked));
+        for name in names {
+            *met.entry(name).or_default() += 1;
+        }
+    }
+    println!("{met:#?}");
+    assert!(met.len() == 41 && met.values().all(|&n| n >= 10), "{} {met:?}", met.len());
 }
 
 /// Every length of lent numbers, from none to two more than are needed, for answers of each kind.

@@ -151,13 +151,14 @@ fn put(stacks: &mut Stacks, most: &mut Most, request: &Request) {
     }
 }
 
-/// Rules with implies as deep as question 4 allows, fifteen, in the left operand, in the right one, and in turns; each alone and under
-/// a weak previous, so that it is decided as the rule and as an operand.
+/// Rules with implies as deep as 32 nodes allow, in the left operand, in the right one, and in turns: fifteen where each has a test of its
+/// own, thirty-one where they share one. Each is decided as the rule, as the operand of a weak previous, and as a node that is shared itself:
+/// there the last of thirty-one gives way.
 fn deepest_rules() -> Vec<Vec<u32>> {
     let test = |k: u32| 1 << 29 | (k % 16) << 25 | k << 11;
     let implies = |left: u32, right: u32| 3 << 29 | left << 6 | right << 1;
     let in_left: [fn(u32) -> bool; 3] = [|_| true, |_| false, |k| k % 2 == 0];
-    let alone = in_left.map(|in_left| {
+    let own_tests = in_left.map(|in_left| {
         let mut words = vec![test(0)];
         for k in 0..15 {
             let inner = 2 * k;
@@ -166,8 +167,14 @@ fn deepest_rules() -> Vec<Vec<u32>> {
         }
         words
     });
-    let under = alone.clone().map(|words| [words, vec![5 << 29 | 30 << 6]].concat());
-    [alone, under].concat()
+    let one_test = in_left.map(|in_left| {
+        let mut words = vec![test(0)];
+        words.extend((0..31).map(|inner| if in_left(inner) { implies(inner, 0) } else { implies(0, inner) }));
+        words
+    });
+    let alone = [own_tests, one_test].concat();
+    let under = |last: u32| alone.iter().map(move |words| [&words[..31], &[last]].concat());
+    under(5 << 29 | 30 << 6).chain(under(implies(30, 30))).chain(alone.clone()).collect()
 }
 
 /// Every function for a rule: a bare script with two presents that becomes 1,024 lines, and those lines.

@@ -1,19 +1,17 @@
 //! The largest facts. The lines stand as they will be written and lose facts in place; those that have lost some are looked at again,
 //! rising, round and round. What stands at a line is closed at any time, as what two closed sets share is closed: so only what an
 //! instruction adds has to be closed, and only if the line that follows has facts that are not there without it.
-use super::rule::{bit, nodes_of, Rule, IMPLIES, SINCE, WEAK_PREVIOUS};
+use super::rule::{bit, nodes_of, Rule, IMPLIES, SINCE};
 use super::script::{among, check_code, Closing, Line, A, ANNOTATED, B, C, F, M, T, W};
 use super::{no, No};
-
-const NO_NODE: usize = 32;
 
 /// Facts are met eight words at a time; the instruction stays.
 const STAYS: Line = [!0, 0, 0, 0, 0, 0, 0, 0];
 
 struct Search<'a> {
     closing: Closing<'a>,
-    /// The node that each node is an operand of.
-    above: [u8; 32],
+    /// The nodes that each node is an operand of.
+    above: [u32; 32],
     /// The nodes whose values may follow from their operands' values.
     joins: u32,
     /// The lines to look at again: line i is bit i % 64 of word i / 64.
@@ -22,27 +20,27 @@ struct Search<'a> {
 
 impl<'a> Search<'a> {
     fn new(rule: &'a Rule) -> Search<'a> {
-        let mut above = [NO_NODE as u8; 32];
+        let mut above = [0; 32];
         let mut joins = 0;
         for (i, d) in rule.nodes[..rule.count()].iter().enumerate() {
-            if matches!(d.kind, IMPLIES | SINCE | WEAK_PREVIOUS) {
-                above[d.left as usize & 31] = i as u8;
-            }
             if matches!(d.kind, IMPLIES | SINCE) {
-                above[d.right as usize & 31] = i as u8;
+                above[d.left as usize & 31] |= bit(i);
+                above[d.right as usize & 31] |= bit(i);
                 joins |= bit(i);
             }
         }
         Search { closing: Closing::new(rule), above, joins, again: [0; 16] }
     }
 
-    /// Closes again from a node upwards. A node is an operand once: what follows from it follows at the nodes above it in turn, and no
-    /// further than where nothing new does.
-    fn raise(&self, facts: &mut Line, from: usize) {
-        let mut node = from;
-        while node != NO_NODE {
+    /// Closes again from some nodes upwards, rising: what follows from a node follows at those above it in turn, and no further than where
+    /// nothing new does.
+    fn raise(&self, facts: &mut Line, from: u32) {
+        let mut open = from;
+        while open != 0 {
+            let node = open.leading_zeros() as usize;
             let d = self.closing.rule.nodes[node & 31];
             let (left, right, at) = (bit(d.left as usize), bit(d.right as usize), bit(node));
+            open &= !at;
             let has = |fact: usize, of: u32| facts[fact] & of != 0;
             let (is_true, is_false) = match d.kind {
                 IMPLIES => (has(F, left) || has(T, right), has(T, left) && has(F, right)),
@@ -50,12 +48,11 @@ impl<'a> Search<'a> {
                 _ => (has(A, at), has(B, at)),
             };
             let (t, f) = (if is_true { at } else { 0 }, if is_false { at } else { 0 });
-            if t & !facts[T] | f & !facts[F] == 0 {
-                return;
+            if t & !facts[T] | f & !facts[F] != 0 {
+                facts[T] |= t;
+                facts[F] |= f;
+                open |= self.above[node & 31];
             }
-            facts[T] |= t;
-            facts[F] |= f;
-            node = self.above[node & 31] as usize;
         }
     }
 
@@ -63,7 +60,7 @@ impl<'a> Search<'a> {
     fn add(&self, facts: &mut Line, fact: usize, nodes: u32) {
         let new = nodes & !facts[fact];
         facts[fact] |= new;
-        nodes_of(new).for_each(|node| self.raise(facts, self.above[node & 31] as usize));
+        self.raise(facts, nodes_of(new).fold(0, |above, node| above | self.above[node & 31]));
     }
 
     /// A line keeps what is passed on to it.
@@ -116,11 +113,11 @@ impl<'a> Search<'a> {
             7 => self.keep(lines, target, &s),
             8 => {
                 let (a, b) = (self.closing.next_priors(s[T]), self.closing.next_priors(s[F]));
-                self.keep_priors(lines, next, a, b, 0, s[W]);
+                self.keep_priors(lines, next, a, b, 0, s[W] & rule.past());
             }
             9 => {
                 let (value, prior) = if word >> 24 & 1 == 1 { (T, A) } else { (F, B) };
-                let known = s[value] & bit(rule.next_prior(node)) != 0;
+                let known = s[value] & bit(rule.worked_out(node)) != 0;
                 let mut p = s;
                 p[W] = s[W] & !about | if known { about } else { 0 };
                 p[C] = s[C] & !about | s[prior] & about;
@@ -129,11 +126,11 @@ impl<'a> Search<'a> {
             10 | 11 => {
                 let (knows_prior, knows_value) = if word >> 28 == 10 { (s[M], 0) } else { (s[C], s[W]) };
                 let prior = knows_prior & about;
-                let value = if knows_value & about != 0 { bit(rule.next_prior(node)) } else { 0 };
+                let value = if knows_value & about != 0 { bit(rule.worked_out(node)) } else { 0 };
                 let more = |search: &Self, p: &mut Line, value_fact: usize, prior_fact: usize| {
                     p[prior_fact] |= prior;
                     search.add(p, value_fact, value);
-                    search.raise(p, node);
+                    search.raise(p, about);
                 };
                 self.keep_more(lines, target, &s, |search, p| more(search, p, T, A));
                 self.keep_more(lines, next, &s, |search, p| more(search, p, F, B));
@@ -152,7 +149,7 @@ impl<'a> Search<'a> {
         let (past, all) = (rule.past(), !0 << (32 - rule.count()));
         for (i, (line, about)) in lines.iter_mut().zip(about.iter_mut()).enumerate() {
             let word = line[0];
-            *line = [word, all, all, past, past, past, past, past];
+            *line = [word, all, all, past, past, past, rule.work(), past];
             *about = match word >> 28 {
                 5 | 6 | 13 => self.closing.same_test(word),
                 9..=12 => bit((word >> 10 & 31) as usize),

@@ -28,7 +28,7 @@ struct Join {
     bit: u8,
 }
 
-/// The nodes numbered anew, operands before their node and left's number one below a weak previous's.
+/// The nodes numbered anew, operands before their node and left's number one below a weak previous's, unless it has one already.
 #[derive(Default)]
 struct Decoded {
     tests: [Test; 32],
@@ -41,22 +41,31 @@ struct Decoded {
     last: u8,
     since: u32,
     weak: u32,
+    /// The weak previouses whose operand's number is one below theirs, and the others.
+    near: u32,
+    far: [Join; 32],
+    far_count: usize,
 }
+
+const NO_NUMBER: u8 = 32;
 
 impl Decoded {
     fn new(rule: &Rule) -> Decoded {
         let mut d = Decoded::default();
-        let mut next = 0;
-        d.last = d.number(rule, rule.count() - 1, &mut next);
+        d.last = d.number(rule, rule.count() - 1, &mut 0, &mut [NO_NUMBER; 32]);
         d
     }
 
-    fn number(&mut self, rule: &Rule, node: usize, next: &mut u8) -> u8 {
+    fn number(&mut self, rule: &Rule, node: usize, next: &mut u8, numbers: &mut [u8; 32]) -> u8 {
+        if numbers[node & 31] != NO_NUMBER {
+            return numbers[node & 31];
+        }
         let n = rule.nodes[node & 31];
-        let left = if has_left(n.kind) { self.number(rule, n.left as usize, next) } else { 0 };
-        let right = if matches!(n.kind, IMPLIES | SINCE) { self.number(rule, n.right as usize, next) } else { 0 };
+        let left = if has_left(n.kind) { self.number(rule, n.left as usize, next, numbers) } else { 0 };
+        let right = if matches!(n.kind, IMPLIES | SINCE) { self.number(rule, n.right as usize, next, numbers) } else { 0 };
         let bit = *next;
         *next += 1;
+        numbers[node & 31] = bit;
         match n.kind {
             FALSE => {}
             EQUAL | BELOW => {
@@ -71,8 +80,13 @@ impl Decoded {
             kind => {
                 self.since |= ((kind == SINCE) as u32) << bit;
                 self.weak |= ((kind == WEAK_PREVIOUS) as u32) << bit;
+                self.near |= ((kind == WEAK_PREVIOUS && left + 1 == bit) as u32) << bit;
                 self.joins[self.join_count & 31] = Join { kind, left, right, bit };
                 self.join_count += 1;
+                if kind == WEAK_PREVIOUS && left + 1 != bit {
+                    self.far[self.far_count & 31] = Join { kind, left, right, bit };
+                    self.far_count += 1;
+                }
             }
         }
         bit
@@ -130,7 +144,10 @@ pub fn one_at_a_time(rule: &[u32], history: &[u16]) -> Result<Option<usize>, No>
             let v = values >> right | (values >> left ^ flip >> at) & gate >> at;
             values |= (v & 1) << at;
         }
-        prior = values << 1 & d.weak | values & d.since;
+        prior = values << 1 & d.near | values & d.since;
+        for j in &d.far[..d.far_count] {
+            prior |= (values >> (j.left & 31) & 1) << (j.bit & 31);
+        }
         if values >> (d.last & 31) & 1 == 0 {
             return Ok(Some(n));
         }

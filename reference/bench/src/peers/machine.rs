@@ -1,5 +1,5 @@
 //! The run over decoded lines, and the single step over stored ones.
-use super::rule::{bit, SINCE, WEAK_PREVIOUS};
+use super::rule::{bit, IMPLIES, SINCE, WEAK_PREVIOUS};
 use super::script::{check_script, is_allowed, ANNOTATED};
 use super::{numbers_small, No};
 
@@ -101,6 +101,17 @@ pub fn run(words: &[u32], script: &[u32], inputs: &[u16], budget: u64, history: 
     Ok(Ran { stop, line, steps, presentations, read, registers: r })
 }
 
+/// Whether the first 32 nodes of a table that need not be a rule have number c as an operand twice.
+#[cold]
+fn mentioned_twice(rule: &[u32], c: u32) -> bool {
+    let mentions = |&w: &u32| match (w >> 29) as u8 {
+        IMPLIES | SINCE => (w >> 6 & 31 == c) as u32 + (w >> 1 & 31 == c) as u32,
+        WEAK_PREVIOUS => (w >> 6 & 31 == c) as u32,
+        _ => 0,
+    };
+    rule.iter().take(32).map(mentions).sum::<u32>() > 1
+}
+
 /// One step of the machine in `state`, as `guard_step` makes it: 0, 98 or 99.
 pub fn step(rule: &[u32], script: &[u32], inputs: &[u16], history: &mut [u16], state: &mut [u64]) -> u32 {
     let Some((counts, rest)) = state.split_first_chunk_mut::<5>() else { return 99 };
@@ -112,10 +123,12 @@ pub fn step(rule: &[u32], script: &[u32], inputs: &[u16], history: &mut [u16], s
     let Some(stored) = usize::try_from(*line).ok().and_then(|i| script.chunks_exact(8).nth(i)) else { return 0 };
     let word = stored[0];
     let l = decode(word);
-    // question 6 looks at one node
+    // question 6 looks at one node, and at the others only where it is no past node
     let named = rule.get(l.c as usize).filter(|_| l.c < 32).map_or(0, |w| (w >> 29) as u8);
     let past = if matches!(named, SINCE | WEAK_PREVIOUS) { bit(l.c as usize) } else { 0 };
-    if !is_allowed(past, ANNOTATED, word) {
+    let is_shared = past == 0 && matches!(l.op, 9 | 11) && mentioned_twice(rule, l.c as u32);
+    let shared = if is_shared { bit(l.c as usize) } else { 0 };
+    if !is_allowed(past, shared, ANNOTATED, word) {
         return 0;
     }
     let r = l.r as usize & 15;

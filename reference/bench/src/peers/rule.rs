@@ -25,6 +25,8 @@ pub struct Rule<'a> {
     pub falses: u32,
     pub since: u32,
     pub weak: u32,
+    /// The nodes that are operands twice or more.
+    pub twice: u32,
 }
 
 pub fn bit(node: usize) -> u32 {
@@ -77,12 +79,12 @@ impl<'a> Rule<'a> {
         if high != 0 {
             return no(3, high.leading_zeros() as usize);
         }
-        let wrong = (!once | twice) & !(u32::MAX >> (words.len() - 1));
-        if wrong != 0 {
-            return no(4, wrong.leading_zeros() as usize);
+        let unused = !once & !(u32::MAX >> (words.len() - 1));
+        if unused != 0 {
+            return no(4, unused.leading_zeros() as usize);
         }
         let [falses, _, _, _, since, weak, _, _] = kinds;
-        Ok(Rule { words, nodes, falses, since, weak })
+        Ok(Rule { words, nodes, falses, since, weak, twice })
     }
 
     pub fn count(&self) -> usize {
@@ -93,8 +95,17 @@ impl<'a> Rule<'a> {
         self.since | self.weak
     }
 
-    /// The node whose value now is a past node's next prior.
-    pub fn next_prior(&self, node: usize) -> usize {
+    pub fn shared(&self) -> u32 {
+        self.twice & !self.past()
+    }
+
+    /// The nodes that have a work bit.
+    pub fn work(&self) -> u32 {
+        self.twice | self.past()
+    }
+
+    /// The node whose value now W says that the work bit is: a past node's next prior, a shared node's own value.
+    pub fn worked_out(&self, node: usize) -> usize {
         let d = self.nodes[node & 31];
         if d.kind == WEAK_PREVIOUS {
             d.left as usize

@@ -28,13 +28,13 @@ pub fn goes_to_target(word: u32) -> bool {
     FOLLOWS[(word >> 28) as usize] & 2 != 0
 }
 
-/// Question 6 of one line.
-pub fn is_allowed(past: u32, opcodes: u32, word: u32) -> bool {
+/// Question 6 of one line: 9 and 11 may also name a shared node.
+pub fn is_allowed(past: u32, shared: u32, opcodes: u32, word: u32) -> bool {
     let op = word >> 28;
     let c = word >> 10 & 0x3fff;
     let names = match op {
         2 | 13 => c < 16,
-        9..=12 => c < 32 && past & bit(c as usize) != 0,
+        9..=12 => c < 32 && (past | shared & (op & 1).wrapping_neg()) & bit(c as usize) != 0,
         _ => true,
     };
     opcodes >> op & 1 != 0 && word & UNUSED[op as usize] == 0 && names
@@ -46,10 +46,10 @@ pub fn check_code(rule: &Rule, words: &[u32], stride: usize, opcodes: u32) -> Re
     if words.len() % stride != 0 || n == 0 || n > 1024 {
         return no(5, 0);
     }
-    let past = rule.past();
+    let (past, shared) = (rule.past(), rule.shared());
     let mut stray = None;
     for (i, &w) in words.iter().step_by(stride).enumerate() {
-        if !is_allowed(past, opcodes, w) {
+        if !is_allowed(past, shared, opcodes, w) {
             return no(6, i);
         }
         let follows = FOLLOWS[(w >> 28) as usize];
@@ -135,8 +135,27 @@ impl<'a> Closing<'a> {
         })
     }
 
-    /// Whether closing gives a node this value: the question is put to its operands only where the facts do not answer it.
-    fn is_known(&self, s: &Line, node: usize, value: bool) -> bool {
+    /// Whether closing gives a node this value. Where nodes are used again the question may come to some of them again and again, so
+    /// there it is put to few, and if these do not settle it all facts are closed.
+    #[inline(always)]
+    fn is_known<const AGAIN: bool>(&self, s: &Line, node: usize, value: bool) -> bool {
+        let mut more = 16;
+        let known = self.follows::<AGAIN>(s, node, value, &mut more);
+        if AGAIN && more == 0 {
+            return self.close(s)[if value { T } else { F }] & bit(node) != 0;
+        }
+        known
+    }
+
+    /// The question is put to a node's operands only where the facts do not answer it; where nodes are used again, as long as `more` may
+    /// be asked.
+    fn follows<const AGAIN: bool>(&self, s: &Line, node: usize, value: bool, more: &mut u32) -> bool {
+        if AGAIN {
+            if *more == 0 {
+                return false;
+            }
+            *more -= 1;
+        }
         let at = bit(node);
         let (values, priors) = if value { (s[T], s[A]) } else { (s[F], s[B]) };
         let d = self.rule.nodes[node & 31];
@@ -144,10 +163,14 @@ impl<'a> Closing<'a> {
         values & at != 0
             || match (d.kind, value) {
                 (FALSE, _) => !value,
-                (IMPLIES, true) => self.is_known(s, left, false) || self.is_known(s, right, true),
-                (IMPLIES, false) => self.is_known(s, left, true) && self.is_known(s, right, false),
-                (SINCE, true) => self.is_known(s, right, true) || priors & at != 0 && self.is_known(s, left, true),
-                (SINCE, false) => self.is_known(s, right, false) && (priors & at != 0 || self.is_known(s, left, false)),
+                (IMPLIES, true) => self.follows::<AGAIN>(s, left, false, more) || self.follows::<AGAIN>(s, right, true, more),
+                (IMPLIES, false) => self.follows::<AGAIN>(s, left, true, more) && self.follows::<AGAIN>(s, right, false, more),
+                (SINCE, true) => {
+                    self.follows::<AGAIN>(s, right, true, more) || priors & at != 0 && self.follows::<AGAIN>(s, left, true, more)
+                }
+                (SINCE, false) => {
+                    self.follows::<AGAIN>(s, right, false, more) && (priors & at != 0 || self.follows::<AGAIN>(s, left, false, more))
+                }
                 (WEAK_PREVIOUS, _) => priors & at != 0,
                 _ => false,
             }
@@ -155,30 +178,30 @@ impl<'a> Closing<'a> {
 
     /// Whether the facts noted at a line are among these, closed. Closing adds T and F alone, and few of them are missing as a rule.
     #[inline(always)]
-    fn gives(&self, facts: &Line, noted: &Line) -> bool {
+    fn gives<const AGAIN: bool>(&self, facts: &Line, noted: &Line) -> bool {
         let missing: Line = std::array::from_fn(|k| noted[k] & !facts[k]);
         if missing[A] | missing[B] | missing[M] | missing[W] | missing[C] != 0 {
             return false;
         }
-        missing[T] | missing[F] == 0 || self.closing_gives(facts, noted, missing[T], missing[F])
+        missing[T] | missing[F] == 0 || self.closing_gives::<AGAIN>(facts, noted, missing[T], missing[F])
     }
 
     #[inline(never)]
-    fn closing_gives(&self, facts: &Line, noted: &Line, t: u32, f: u32) -> bool {
+    fn closing_gives<const AGAIN: bool>(&self, facts: &Line, noted: &Line, t: u32, f: u32) -> bool {
         if t.count_ones() + f.count_ones() > 3 {
             return among(noted, &self.close(facts));
         }
-        nodes_of(t).all(|k| self.is_known(facts, k, true)) && nodes_of(f).all(|k| self.is_known(facts, k, false))
+        nodes_of(t).all(|k| self.is_known::<AGAIN>(facts, k, true)) && nodes_of(f).all(|k| self.is_known::<AGAIN>(facts, k, false))
     }
 
     /// Whether the facts noted at the lines that follow are among those passed on. What closing the facts before the instruction adds
     /// counts for 8 and 9 alone; for the others closing afterwards adds it as well.
-    fn passes(&self, s: &Line, noted_at_target: impl Fn() -> Line, noted_at_next: impl Fn() -> Line) -> bool {
+    fn passes<const AGAIN: bool>(&self, s: &Line, noted_at_target: impl Fn() -> Line, noted_at_next: impl Fn() -> Line) -> bool {
         let word = s[0];
         let node = (word >> 10 & 31) as usize;
         let at = bit(node);
-        let target = |facts: &Line| self.gives(facts, &noted_at_target());
-        let next = |facts: &Line| self.gives(facts, &noted_at_next());
+        let target = |facts: &Line| self.gives::<AGAIN>(facts, &noted_at_target());
+        let next = |facts: &Line| self.gives::<AGAIN>(facts, &noted_at_next());
         let (mut p, mut q) = (*s, *s);
         match word >> 28 {
             0 => true,
@@ -196,7 +219,8 @@ impl<'a> Closing<'a> {
             }
             7 => target(s),
             8 => {
-                let after = |t: u32, f: u32| next(&[0, 0, 0, self.next_priors(t), self.next_priors(f), 0, 0, s[W]]);
+                let kept = if AGAIN { s[W] & self.rule.past() } else { s[W] };
+                let after = |t: u32, f: u32| next(&[0, 0, 0, self.next_priors(t), self.next_priors(f), 0, 0, kept]);
                 after(s[T], s[F]) || {
                     let closed = self.close(s);
                     after(closed[T], closed[F])
@@ -205,7 +229,7 @@ impl<'a> Closing<'a> {
             9 => {
                 let value = word >> 24 & 1 == 1;
                 let prior = if value { s[A] } else { s[B] };
-                let known = self.is_known(s, self.rule.next_prior(node), value);
+                let known = self.is_known::<AGAIN>(s, self.rule.worked_out(node), value);
                 p[W] = s[W] & !at | if known { at } else { 0 };
                 p[C] = s[C] & !at | prior & at;
                 next(&p)
@@ -216,7 +240,7 @@ impl<'a> Closing<'a> {
                 target(&p) && next(&q)
             }
             11 => {
-                let value = if s[W] & at != 0 { bit(self.rule.next_prior(node)) } else { 0 };
+                let value = if s[W] & at != 0 { bit(self.rule.worked_out(node)) } else { 0 };
                 p[T] |= value;
                 q[F] |= value;
                 p[A] |= s[C] & at;
@@ -240,13 +264,33 @@ fn line(script: &[u32], i: usize) -> &Line {
     script[8 * i..8 * i + 8].try_into().unwrap()
 }
 
+/// Questions 10 and 11.
+fn check_facts<const AGAIN: bool>(closing: &Closing, script: &[u32], n: usize) -> Result<(), No> {
+    let last = closing.rule.count() - 1;
+    let mut unfollowed = None;
+    for i in 0..n {
+        let l = line(script, i);
+        if l[0] >> 28 == 8 && !closing.is_known::<AGAIN>(l, last, true) {
+            return no(10, i);
+        }
+        let (target, next) = (|| *line(script, (l[0] & 0x3ff) as usize), || *line(script, i + 1));
+        if unfollowed.is_none() && !closing.passes::<AGAIN>(l, target, next) {
+            unfollowed = Some(i);
+        }
+    }
+    match unfollowed {
+        Some(i) => no(11, i),
+        None => Ok(()),
+    }
+}
+
 /// Questions 1 to 11: the rule, and how many lines there are.
 pub fn check_script<'a>(words: &'a [u32], script: &[u32]) -> Result<(Rule<'a>, usize), No> {
     let rule = Rule::read(words)?;
     let n = check_code(&rule, script, 8, ANNOTATED)?;
     let past = rule.past();
     let all = !0 << (32 - rule.count());
-    let belong = [!0, all, all, past, past, past, past, past];
+    let belong = [!0, all, all, past, past, past, rule.work(), past];
     let mut noted = [0; 8];
     for i in 0..n {
         let l = line(script, i);
@@ -259,19 +303,10 @@ pub fn check_script<'a>(words: &'a [u32], script: &[u32]) -> Result<(Rule<'a>, u
     if !among(line(script, 0), &closing.close(&[0, 0, 0, rule.weak, rule.since, past, 0, 0])) {
         return no(9, 0);
     }
-    let mut unfollowed = None;
-    for i in 0..n {
-        let l = line(script, i);
-        if l[0] >> 28 == 8 && !closing.is_known(l, rule.count() - 1, true) {
-            return no(10, i);
-        }
-        let (target, next) = (|| *line(script, (l[0] & 0x3ff) as usize), || *line(script, i + 1));
-        if unfollowed.is_none() && !closing.passes(l, target, next) {
-            unfollowed = Some(i);
-        }
+    if rule.twice == 0 {
+        check_facts::<false>(&closing, script, n)?;
+    } else {
+        check_facts::<true>(&closing, script, n)?;
     }
-    match unfollowed {
-        Some(i) => no(11, i),
-        None => Ok((rule, n)),
-    }
+    Ok((rule, n))
 }
