@@ -23,7 +23,9 @@
  * are as they were. With GUARD_TOO_SHORT and GUARD_TOO_LARGE nothing at all is written, `numbers` and `state` included.
  *
  * FORMATS. A rule is 1 to 32 nodes, one 32-bit word each, from the most significant bit: kind 3 bits, register 4, constant 14,
- * left 5, right 5, a zero bit; an operand is a node's number, from 0. A bare script is 1 to 1,024 lines of one 32-bit word:
+ * left 5, right 5, a zero bit; an operand is a node's number, from 0. A node may be an operand more than once. Since and weak previous,
+ * kinds 4 and 5, are past nodes; any other node that is an operand twice or more (`implies 0 0` counts two) is shared: it is worked out
+ * once in a block, and has a work bit and the fact W. A bare script is 1 to 1,024 lines of one 32-bit word:
  * opcode 4 bits, r 4, c 14, target 10; opcodes 0 to 8, 13 and 14. An annotated script has eight words a line: the instruction,
  * opcodes 0 to 14, and seven sets of facts in the order T, F, A, B, M, W, C, node 0 at the most significant bit. A node of kind 6 is
  * true if its register equals the one whose number, 0 to 15, is in its constant. Opcode 3 raises register r by c and stops at 16,383;
@@ -31,7 +33,7 @@
  * 16 numbers for each presentation, the registers at that time, each at most 16,383.
  *
  * STACK. A proof knows nothing of the stack, so what a call takes was measured: on a painted stack, with rules as deeply nested as
- * question 4 allows, full scripts and random requests (reference/compare/tests/stack.rs, which also holds enum guard_stack to it).
+ * 32 nodes allow, full scripts and random requests (reference/compare/tests/stack.rs, which also holds enum guard_stack to it).
  * The numbers are for libguard.a, which is x86-64; another compiler's are its own. No call takes more for a longer input. Only
  * guard_weave calls itself inside, once for each implies around a node; guard_facts has the notes of its search there, 57 KB, so it
  * takes the most.
@@ -53,10 +55,11 @@ enum guard_question {
     GUARD_NODE_COUNT = 1,         /* has the rule 1 to 32 nodes? */
     GUARD_NODE_FIELDS = 2,        /* are kinds 0 to 6, unused fields zero, register in the constant at most 15? (node) */
     GUARD_NODE_OPERANDS = 3,      /* are operands lower than their node? (node) */
-    GUARD_NODE_USED_ONCE = 4,     /* is each node but the last an operand exactly once? (node) */
+    GUARD_NODE_USED = 4,          /* is each node but the last an operand at least once? (node) */
+    GUARD_NODE_USED_ONCE = 4,     /* the name that it had when "exactly once" was asked */
     GUARD_LINE_COUNT = 5,         /* has the script 1 to 1,024 whole lines? */
-    GUARD_LINE_FIELDS = 6,        /* opcodes allowed, unused fields zero, register in c at most 15, node in c a past node, set
-                                     bit 0 or 1? (line) */
+    GUARD_LINE_FIELDS = 6,        /* opcodes allowed, unused fields zero, register in c at most 15, node in c a past node
+                                     (9 and 11: or a shared one), set bit 0 or 1? (line) */
     GUARD_LINE_FOLLOWERS = 7,     /* does every line that can follow exist? (line) */
     GUARD_FACTS_BELONG = 8,       /* facts only where they belong? (line) */
     GUARD_FACTS_FIRST = 9,        /* are line 0's facts among the first facts? */
@@ -91,8 +94,8 @@ enum guard_stack {
     GUARD_STACK_RULE = 128,
     GUARD_STACK_BARE = 384,
     GUARD_STACK_SCRIPT = 896,
-    GUARD_STACK_WEAVE = 5120,
-    GUARD_STACK_FACTS = 58240,
+    GUARD_STACK_WEAVE = 10112,
+    GUARD_STACK_FACTS = 58368,
     GUARD_STACK_JUDGE = 256,
     GUARD_STACK_RUN = 1024,
     GUARD_STACK_FRESH = 128,
@@ -216,7 +219,7 @@ enum {
     GUARD_STATE_PRESENTATIONS = 1,
     GUARD_STATE_INPUTS_READ = 2,
     GUARD_STATE_KEPT = 3,         /* the kept bits of the past nodes */
-    GUARD_STATE_WORK = 4,         /* the work bits of the past nodes */
+    GUARD_STATE_WORK = 4,         /* the work bits of the past and the shared nodes */
     GUARD_STATE_REGISTERS = 5,    /* the 16 registers, state[5] to state[20] */
     GUARD_STATE_NUMBERS = 21
 };
