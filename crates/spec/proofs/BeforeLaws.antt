@@ -2,7 +2,7 @@
 --     weave-before             any table that has no shared node weaves to the same lines
 --     as-before                a rule that passed question 4 before it passes it now, has no shared node, and weaves as before
 -- Assumes nothing.
-use mathlib.Core.Path.{_≡_, refl, sym, ap, ap₂, _∙_, fun-ext}
+use mathlib.Core.Path.{_≡_, refl, ap, ap₂, _∙_, fun-ext}
 use mathlib.Core.Logic.{inl, inr}
 use mathlib.Core.Bool.{Bool, true, false, cond, _&&_, _||_, or-false}
 use mathlib.Core.List.{List, [], _∷_, _++_}
@@ -16,7 +16,7 @@ use Rattle.spec.specs.Rule.{Form, Node, falseNode, testNode, impliesNode
 use Rattle.spec.specs.Script.{ifWork, Instruction, Code, isPresent, bareCode, checkBare}
 use Rattle.spec.specs.Facts.{workIsNext, Facts, _∪_, only}
 use Rattle.spec.specs.Check.{Lines, wordsOf}
-use Rattle.spec.specs.Weaver.{bareFacts, doneFacts, sizeFrom, mentionSize, decideSize, Decision, leaf, decideFrom, mentionFrom, decide, update, updateSize, workSize, workCode, updatesSize, updates, blockSize, block, sharingLines, blockLines, lineSize, startOf, weaveLine, weaveFrom, weave, woven, wovenLines, question12, question13, checkWeaving, weaving, outputFor, outputAfter}
+use Rattle.spec.specs.Weaver.{bareFacts, doneFacts, sizeFrom, mentionSize, decideSize, Decision, leaf, decideFrom, mentionFrom, decide, update, updateSize, workSize, workCode, updatesSize, updates, blockSize, block, sharingLines, blockLines, startOf, weaveLine, weaveFrom, weave, woven, wovenLines, question12, question13, checkWeaving, weaving, outputFor, outputAfter}
 use Rattle.spec.proofs.BoolLaws.{le-or-lt}
 use Rattle.spec.proofs.QuestionLaws.{then-passed, both-passed, ask-in, ask-out}
 use Rattle.spec.proofs.RuleLaws.{InOrder, rule-out}

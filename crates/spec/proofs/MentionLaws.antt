@@ -8,7 +8,7 @@
 --     shared-not-past, past-unshared, shared-next, shared-in   a shared node is no past node; W speaks of its own value; it is in the table
 --     work-in, next-in               a node with a work bit is in the table, and so is the node whose value W speaks of
 -- Assumes nothing.
-use mathlib.Core.Path.{_≡_, refl, sym, subst, ap, ap₂, _∙_}
+use mathlib.Core.Path.{_≡_, refl, sym, ap, ap₂, _∙_}
 use mathlib.Core.Logic.{_⊎_, inl, inr}
 use mathlib.Core.Bool.{Bool, true, false, cond, not, _&&_, _||_, and-false}
 use mathlib.Core.List.{List, [], _∷_}
@@ -19,7 +19,7 @@ use lib.ListN.{length}
 use lib.Dec.{eqb, ltb, leb}
 use borrow.Author.Tests.{ltb-true, lt-ltb, leb-true, leb-false, eq-eqb, ne-eqb, not-true}
 use Rattle.spec.specs.Questions.{all, count, sum}
-use Rattle.spec.specs.Rule.{Node, falseNode, testNode, impliesNode, sinceNode, weakPreviousNode, Table, nodeAt, lastNode, isPast, operands, mentions, isShared, hasWork, nextFrom, nextOf}
+use Rattle.spec.specs.Rule.{Node, falseNode, testNode, impliesNode, sinceNode, weakPreviousNode, Table, nodeAt, isPast, operands, mentions, isShared, hasWork, nextFrom, nextOf}
 use Rattle.spec.proofs.BoolLaws.{clash, and-both, both-and, decided, or-either, or-left, or-right, le-or-lt}
 use Rattle.spec.proofs.RuleLaws.{InOrder, past-in, next-lower}
 

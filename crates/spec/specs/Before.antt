@@ -1,7 +1,7 @@
 -- Question 4 and the weaver before request 2026-06: the definitions that the request changed, and those that rest on them, as they stood; and
 -- what "a table without sharing weaves as before" says. Only `BeforeLaws` uses them. Not here: what the request left as it was.
 use mathlib.Core.Path.{_≡_}
-use mathlib.Core.Bool.{Bool, true, false, cond, _&&_}
+use mathlib.Core.Bool.{true, false, cond, _&&_}
 use mathlib.Core.List.{List, [], _∷_, _++_}
 use Prim.Native.Nat.{ℕ, zero, suc, _+_, _*_}
 use lib.ListN.{length}

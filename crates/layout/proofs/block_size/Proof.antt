@@ -1,6 +1,6 @@
 -- `layout::block_size` meets its contract. The loop keeps: the lines of the nodes below k are counted (`SizeLaws.countedTo`). Assumes nothing.
 use mathlib.Core.Path.{_≡_, ap, _∙_}
-use Prim.Native.Nat.{_+_, _-_, _≤_, _<_}
+use Prim.Native.Nat.{_+_, _-_, _≤_}
 use lib.ListN.{length, getD}
 use native.Mathlib.Omega.{arith}
 use borrow.Author.Needs.{needs}

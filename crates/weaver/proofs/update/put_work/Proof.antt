@@ -1,5 +1,5 @@
 -- `weaver::update::put_work` meets its contract: a shared node's code, or a past node's (`UpdateLaws`). Assumes nothing.
-use mathlib.Core.Path.{_≡_, sym, ap, _∙_}
+use mathlib.Core.Path.{sym, ap, _∙_}
 use borrow.Author.Needs.{needs}
 use Rattle.checker.specs.FactSets.{factsOf}
 use Rattle.output.specs.Written.{written}
