@@ -1,6 +1,7 @@
 -- Rules typed as text: the whole of `specs/TextPromise.antt`.
 --     text-promise      for any stored form
 --     text-promise32    for document 01's
+--     text-promise64    for 2026-07's
 --     writing-in, writing-many, writing-few      questions 18 and 13 of a formula
 --     count-refused, count-passed                an answer by its count
 --     refused-16                                 a no of question 16 has this number
@@ -16,11 +17,11 @@ use lib.Dec.{leb}
 use borrow.Author.Tests.{leb-true, le-leb, lt-leb}
 use Rattle.spec.specs.Logic.{Trace, Formula}
 use Rattle.spec.specs.Questions.{Answer, passed, refused, Checked, _then_, firstFailing, ask, askOnce}
-use Rattle.spec.specs.Rule.{Form, form32, tableOf, ruleOf}
+use Rattle.spec.specs.Rule.{Form, form32, form64, tableOf, ruleOf}
 use Rattle.spec.specs.Judging.{Verdict, breach, clean, verdictOn, Means as VerdictMeans}
 use Rattle.spec.proofs.QuestionLaws.{then-passed, then-refused, then-no, both-passed, once-in, once-no, once-out, once-number, no-number}
 use Rattle.spec.proofs.JudgingLaws.{verdict-means}
-use Rattle.spec.proofs.StoredLaws.{GoodForm, good32}
+use Rattle.spec.proofs.StoredLaws.{GoodForm, good32, good64}
 use Rattle.grammar.specs.Typed.{Prefix, not, wprev, prev, once, sofar, Operator, sinceWord, andWord, orWord, impliesWord, Comparison, equalTo, lessThan, testOf, TextFormula, constant, atom, prefixed, joined, opened, openedPrefix, openedOperator}
 use Rattle.grammar.specs.Grammar.{IsText, StuckAt}
 use Rattle.grammar.specs.Scan.{start, stuckFrom, question16}
@@ -215,3 +216,6 @@ module _ (form : Form) (good : GoodForm form) where
 
 pub text-promise32 : TextPromise form32
 text-promise32 = text-promise form32 good32
+
+pub text-promise64 : TextPromise form64
+text-promise64 = text-promise form64 good64

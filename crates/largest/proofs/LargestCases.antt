@@ -1,18 +1,18 @@
--- Cases of request 2026-05 by computation, and its promise for document 01's stored form.
+-- Cases of request 2026-05 by computation, and its promise for document 01's stored form and 2026-07's.
 --     unreached, tone-found                    lines that nothing leads to; the instructions of the woven tone script
 --     nothing-known, lower-of-two, kept-early   question 19
 --     accident-found, kept-late                 the accident, and a guard by hand
---     finding32
+--     finding32, finding64
 -- Assumes nothing.
 use mathlib.Core.Path.{_≡_, refl}
 use mathlib.Core.List.{List, [], _∷_}
 use Prim.Native.Nat.{ℕ}
 use Rattle.spec.specs.Questions.{passed, refused}
-use Rattle.spec.specs.Rule.{form32}
+use Rattle.spec.specs.Rule.{form32, form64}
 use Rattle.largest.specs.Notes.{startNotes}
 use Rattle.largest.specs.Largest.{factsIn, countFacts, stored, _∩_, annotate, narrow, narrowTo, push, sweep, countIn, settle, search, checkInstructions, foundLines, question19, checkFound, foundCount}
 use Rattle.largest.specs.Found.{Found}
-use Rattle.spec.proofs.StoredLaws.{good32}
+use Rattle.spec.proofs.StoredLaws.{good32, good64}
 use Rattle.spec.proofs.Compute.{everything}
 use Rattle.spec.proofs.Cases.{sinceRule}
 use Rattle.largest.proofs.LargestPromise.{finding}
@@ -70,3 +70,7 @@ kept-early = refl
 -- document 01's stored form
 pub finding32 : (rule instructions : List ℕ) → Found form32 rule instructions
 finding32 = finding form32 good32
+
+-- 2026-07's
+pub finding64 : (rule instructions : List ℕ) → Found form64 rule instructions
+finding64 = finding form64 good64
