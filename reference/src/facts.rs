@@ -14,11 +14,12 @@ pub const C: usize = 6;
 /// Seven sets of nodes, in the order T, F, A, B, M, W, C; node 0 is the most significant bit.
 #[derive(Clone, Copy, Debug, PartialEq, Eq, Default)]
 pub struct Facts {
-    pub set: [u32; 7],
+    pub set: [u64; 7],
 }
 
-pub fn bit(node: usize) -> u32 {
-    1 << (31 - node)
+/// The bit of a node, of the 64 that the wider form has room for.
+pub fn bit(node: usize) -> u64 {
+    1 << (63 - node)
 }
 
 impl Facts {
@@ -129,7 +130,7 @@ pub fn belongs(rule: &Rule, fact: usize, node: usize) -> bool {
 pub fn all_facts(rule: &Rule) -> Facts {
     let mut s = Facts::none();
     for fact in 0..7 {
-        for node in 0..32 {
+        for node in 0..rule.len() {
             if belongs(rule, fact, node) {
                 s.add(fact, node);
             }

@@ -1,8 +1,8 @@
 //! Random rules, scripts, inputs and histories that pass every question. Few registers and small constants, so that tests are
 //! often true.
 use crate::random::Rng;
-use crate::rule::{check_rule, Node, Rule};
-use crate::script::{check_bare, instruction_words, Line};
+use crate::rule::{check_rule_in, Node, Rule, MOST_NODES};
+use crate::script::{check_bare_in, instruction_words, Line};
 use crate::{State, TOP};
 
 pub const REGISTERS: usize = 3;
@@ -30,7 +30,7 @@ fn operand(g: &mut Rng, i: usize, unused: &mut Vec<u8>, again: bool) -> Option<u
     }
 }
 
-/// A rule of n nodes, in any order that question 3 allows, in which each but the last is an operand once.
+/// A rule of up to 64 nodes, in any order that question 3 allows, in which each but the last is an operand once.
 pub fn rule(g: &mut Rng, n: usize) -> Rule {
     table(g, n, false)
 }
@@ -63,16 +63,22 @@ fn table(g: &mut Rng, n: usize, again: bool) -> Rule {
             }
         }
     }
-    let words: Vec<u32> = nodes.iter().map(Node::encode).collect();
-    check_rule(&words).expect("a generated rule passes")
+    // in the second form, which has room for every table that the first has room for
+    let words: Vec<u64> = nodes.iter().map(Node::encode_in).collect();
+    check_rule_in(&words).expect("a generated rule passes")
+}
+
+/// How many nodes: mostly few, sometimes the most that a form allows.
+pub fn rule_size_within(g: &mut Rng, most: usize) -> usize {
+    match g.below(40) {
+        0 => most,
+        1 | 2 => g.within(11, most),
+        _ => g.within(1, 10),
+    }
 }
 
 pub fn rule_size(g: &mut Rng) -> usize {
-    match g.below(40) {
-        0 => 32,
-        1 | 2 => g.within(11, 32),
-        _ => g.within(1, 10),
-    }
+    rule_size_within(g, MOST_NODES)
 }
 
 /// What to raise or lower a register by: little, or so much that an end is near.
@@ -110,7 +116,7 @@ pub fn bare(g: &mut Rng, rule: &Rule, n: usize) -> Vec<Line> {
             _ => Line::new(op, 0, 0, t),
         });
     }
-    check_bare(&rule.words(), &instruction_words(&lines)).expect("a generated script passes").1
+    check_bare_in::<u64>(&rule.words_in(), &instruction_words(&lines)).expect("a generated script passes").1
 }
 
 pub fn inputs(g: &mut Rng) -> Vec<u16> {

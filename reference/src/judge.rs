@@ -1,5 +1,6 @@
 //! The judge: straight from the table of kinds, and with priors kept from state to state.
-use crate::rule::{check_rule, Rule};
+use crate::form::Word;
+use crate::rule::{check_rule_in, Rule};
 use crate::{no, No, State, TOP};
 
 /// The first state at which the rule is false, as a part of the caller's history, with its index; where there is none, an empty
@@ -68,8 +69,8 @@ pub fn check_numbers(numbers: &[u16]) -> Result<(), No> {
 }
 
 /// Questions 1 to 4, 14 and 15, then the verdict. Histories of up to `direct` states go by the table of kinds.
-pub fn judge<'a>(rule: &[u32], history: &'a [u16], direct: usize) -> Result<Verdict<'a>, No> {
-    let rule = check_rule(rule)?;
+pub fn judge_in<'a, W: Word>(rule: &[W], history: &'a [u16], direct: usize) -> Result<Verdict<'a>, No> {
+    let rule = check_rule_in(rule)?;
     // 14. Is the length a multiple of 16?
     if history.len() % 16 != 0 {
         return no(14, 0);
@@ -79,4 +80,8 @@ pub fn judge<'a>(rule: &[u32], history: &'a [u16], direct: usize) -> Result<Verd
     let index = if all.len() <= direct { first_false_direct(&rule, &all) } else { first_false_kept(&rule, &all) };
     let part = if index < all.len() { &history[16 * index..16 * index + 16] } else { &history[..0] };
     Ok(Verdict { index, part })
+}
+
+pub fn judge<'a>(rule: &[u32], history: &'a [u16], direct: usize) -> Result<Verdict<'a>, No> {
+    judge_in(rule, history, direct)
 }

@@ -1,7 +1,8 @@
 //! Facts found for instructions that have none: the largest that the checker accepts.
 use crate::facts::{all_facts, close, first_facts, pass, planted, Facts, Fault, C, T};
+use crate::form::{hand_over, Word};
 use crate::rule::Rule;
-use crate::script::{check_instructions, encode_lines, Line};
+use crate::script::{check_instructions_in, encode_lines_in, Line};
 use crate::{no, No};
 use std::collections::VecDeque;
 
@@ -49,14 +50,6 @@ fn check_presents(rule: &Rule, lines: &[Line]) -> Result<(), No> {
     }
 }
 
-/// 13. Eight words for each line in the output?
-fn check_output(lines: &[Line], output: &[u32]) -> Result<(), No> {
-    if output.len() < 8 * lines.len() {
-        return no(13, 0);
-    }
-    Ok(())
-}
-
 /// The ones over the seven words of every line.
 fn count(lines: &[Line]) -> usize {
     let counted = if planted(Fault::CountsNoC) { C } else { C + 1 };
@@ -64,15 +57,17 @@ fn count(lines: &[Line]) -> usize {
 }
 
 /// Questions 1 to 7, 19 and 13; writes eight words a line; answers how many facts there are.
-pub fn find_facts(rule: &[u32], instructions: &[u32], output: &mut [u32]) -> Result<usize, No> {
-    let (rule, mut lines) = check_instructions(rule, instructions)?;
-    if planted(Fault::OutputFirst) {
-        check_output(&lines, output)?;
+pub fn find_facts_in<W: Word>(rule: &[W], instructions: &[u32], output: &mut [W]) -> Result<usize, No> {
+    let (rule, mut lines) = check_instructions_in(rule, instructions)?;
+    if planted(Fault::OutputFirst) && output.len() < 8 * lines.len() {
+        return no(13, 0);
     }
     note_largest(&rule, &mut lines);
     check_presents(&rule, &lines)?;
-    check_output(&lines, output)?;
-    let words = encode_lines(&lines);
-    output[..words.len()].copy_from_slice(&words);
+    hand_over(&encode_lines_in(&lines), output)?;
     Ok(count(&lines))
+}
+
+pub fn find_facts(rule: &[u32], instructions: &[u32], output: &mut [u32]) -> Result<usize, No> {
+    find_facts_in(rule, instructions, output)
 }

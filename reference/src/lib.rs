@@ -1,12 +1,15 @@
 //! A second implementation of the presentation guard, written from the specification alone and independent of the proved
 //! code: clarity before speed. Where the two differ, one of them has misread a sentence.
 pub mod facts;
+pub mod form;
+pub mod form64;
 pub mod generate;
 pub mod generate_text;
 pub mod judge;
 pub mod largest;
 pub mod listing;
 pub mod machine;
+pub mod moves;
 pub mod plain;
 pub mod random;
 pub mod rule;

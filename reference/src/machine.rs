@@ -1,8 +1,9 @@
 //! One step, and the run.
 use crate::facts::{planted, Fault};
+use crate::form::Word;
 use crate::judge::check_numbers;
-use crate::rule::{Node, MOST_NODES};
-use crate::script::{annotated_opcode, check_script, fields_allowed, Line};
+use crate::rule::Node;
+use crate::script::{annotated_opcode, check_script_in, fields_allowed, Line};
 use crate::{No, State, TOP};
 
 #[derive(Clone, Debug, PartialEq, Eq)]
@@ -24,8 +25,12 @@ pub enum Stop {
 }
 
 /// The nodes of a rule that need not have passed any question: no more than the form allows are looked at.
+pub fn nodes_in<W: Word>(rule: &[W]) -> Vec<Node> {
+    rule.iter().take(W::MOST_NODES).map(|&w| Node::decode_in(w)).collect()
+}
+
 pub fn nodes_within(rule: &[u32]) -> Vec<Node> {
-    rule.iter().take(MOST_NODES).map(|&w| Node::decode(w)).collect()
+    nodes_in(rule)
 }
 
 /// Line 0, all dials 0, every kept bit its prior (false for since, true for weak previous), every work bit 0.
@@ -112,15 +117,19 @@ impl Machine {
 
 /// One step of a stored script that need not be accepted: a line that is not there, or that question 6 would turn away,
 /// changes nothing (docs/DECISIONS.md, "A step that cannot be run changes nothing").
-pub fn step_stored(rule: &[u32], script: &[u32], inputs: &[u16], history: &mut [u16], m: Machine) -> Machine {
+pub fn step_stored_in<W: Word>(rule: &[W], script: &[W], inputs: &[u16], history: &mut [u16], m: Machine) -> Machine {
     if m.line >= (script.len() / 8) as u64 {
         return m;
     }
-    let l = Line::decode(script[8 * m.line as usize]);
-    if !fields_allowed(&nodes_within(rule), annotated_opcode, &l) {
+    let l = Line::decode_annotated_in(&script[8 * m.line as usize..]);
+    if !fields_allowed(&nodes_in(rule), annotated_opcode, &l) {
         return m;
     }
     m.step(&l, inputs, history)
+}
+
+pub fn step_stored(rule: &[u32], script: &[u32], inputs: &[u16], history: &mut [u16], m: Machine) -> Machine {
+    step_stored_in(rule, script, inputs, history, m)
 }
 
 #[derive(Clone, Debug, PartialEq, Eq)]
@@ -134,8 +143,8 @@ pub struct Ran {
 }
 
 /// Questions 1 to 11, and 15 of the inputs, then steps from a fresh start until something stops them.
-pub fn run(rule: &[u32], script: &[u32], inputs: &[u16], budget: u64, history: &mut [u16]) -> Result<Ran, No> {
-    let (rule, lines) = check_script(rule, script)?;
+pub fn run_in<W: Word>(rule: &[W], script: &[W], inputs: &[u16], budget: u64, history: &mut [u16]) -> Result<Ran, No> {
+    let (rule, lines) = check_script_in(rule, script)?;
     check_numbers(inputs)?;
     let mut m = fresh(&rule.nodes);
     let mut steps = 0;
@@ -155,4 +164,8 @@ pub fn run(rule: &[u32], script: &[u32], inputs: &[u16], budget: u64, history: &
         steps += 1;
     };
     Ok(Ran { stop, line: m.line, dials: m.dials, steps, presentations: m.presentations, read: m.read })
+}
+
+pub fn run(rule: &[u32], script: &[u32], inputs: &[u16], budget: u64, history: &mut [u16]) -> Result<Ran, No> {
+    run_in(rule, script, inputs, budget, history)
 }

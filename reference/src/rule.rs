@@ -1,8 +1,10 @@
 //! Rules: the table of nodes, questions 1 to 4, truth by the table of kinds.
 use crate::facts::{planted, Fault};
+use crate::form::{word_of, Fields, Word};
 use crate::{no, No, State};
 
-pub const MOST_NODES: usize = 32;
+/// Of the first stored form.
+pub const MOST_NODES: usize = u32::MOST_NODES;
 
 #[derive(Clone, Copy, Debug, PartialEq, Eq)]
 pub struct Node {
@@ -11,29 +13,50 @@ pub struct Node {
     pub constant: u16,
     pub left: u8,
     pub right: u8,
-    /// the zero bit
-    pub zero: u8,
+    /// the zero bit, 31 of them in the second form
+    pub zero: u32,
+}
+
+/// The bits of a node's kind, register and constant.
+const KIND: u32 = 3;
+const REGISTER: u32 = 4;
+const CONSTANT: u32 = 14;
+
+/// The bits that are left below the operands.
+const fn zeros<W: Word>() -> u32 {
+    W::BITS - KIND - REGISTER - CONSTANT - 2 * W::OPERAND
 }
 
 impl Node {
-    pub fn decode(word: u32) -> Node {
+    pub fn decode_in<W: Word>(word: W) -> Node {
+        let mut fields = Fields::of(word);
         Node {
-            kind: (word >> 29) as u8,
-            register: (word >> 25 & 15) as u8,
-            constant: (word >> 11 & 0x3fff) as u16,
-            left: (word >> 6 & 31) as u8,
-            right: (word >> 1 & 31) as u8,
-            zero: (word & 1) as u8,
+            kind: fields.take(KIND) as u8,
+            register: fields.take(REGISTER) as u8,
+            constant: fields.take(CONSTANT) as u16,
+            left: fields.take(W::OPERAND) as u8,
+            right: fields.take(W::OPERAND) as u8,
+            zero: fields.take(zeros::<W>()) as u32,
         }
     }
 
+    pub fn encode_in<W: Word>(&self) -> W {
+        word_of(&[
+            (self.kind.into(), KIND),
+            (self.register.into(), REGISTER),
+            (self.constant.into(), CONSTANT),
+            (self.left.into(), W::OPERAND),
+            (self.right.into(), W::OPERAND),
+            (self.zero.into(), zeros::<W>()),
+        ])
+    }
+
+    pub fn decode(word: u32) -> Node {
+        Node::decode_in(word)
+    }
+
     pub fn encode(&self) -> u32 {
-        (self.kind as u32) << 29
-            | (self.register as u32) << 25
-            | (self.constant as u32) << 11
-            | (self.left as u32) << 6
-            | (self.right as u32) << 1
-            | self.zero as u32
+        self.encode_in()
     }
 
     pub fn new(kind: u8, register: u8, constant: u16, left: u8, right: u8) -> Node {
@@ -118,12 +141,12 @@ pub struct Rule {
 }
 
 /// Questions 1 to 4.
-pub fn check_rule(words: &[u32]) -> Result<Rule, No> {
-    // 1. Has it 1 to 32 nodes?
-    if words.is_empty() || words.len() > MOST_NODES {
+pub fn check_rule_in<W: Word>(words: &[W]) -> Result<Rule, No> {
+    // 1. Has it 1 to 32 nodes, in the second form 1 to 64?
+    if words.is_empty() || words.len() > W::MOST_NODES {
         return no(1, 0);
     }
-    let rule = Rule { nodes: words.iter().map(|&w| Node::decode(w)).collect() };
+    let rule = Rule { nodes: words.iter().map(|&w| Node::decode_in(w)).collect() };
     // 2. Are kinds 0 to 6, unused fields zero, and the other register of a kind 6 at most 15?
     for (i, n) in rule.nodes.iter().enumerate() {
         if n.kind > 6 || !n.unused_fields_zero() || n.kind == 6 && n.constant > 15 {
@@ -143,6 +166,10 @@ pub fn check_rule(words: &[u32]) -> Result<Rule, No> {
         }
     }
     Ok(rule)
+}
+
+pub fn check_rule(words: &[u32]) -> Result<Rule, No> {
+    check_rule_in(words)
 }
 
 /// Right is true at some i ≤ n and left at every j with i < j ≤ n.
@@ -165,8 +192,12 @@ impl Rule {
         self.nodes.len() - 1
     }
 
+    pub fn words_in<W: Word>(&self) -> Vec<W> {
+        self.nodes.iter().map(Node::encode_in).collect()
+    }
+
     pub fn words(&self) -> Vec<u32> {
-        self.nodes.iter().map(Node::encode).collect()
+        self.words_in()
     }
 
     /// How many times node i is an operand, by operand places: `implies 0 0` uses node 0 twice.

@@ -1,6 +1,7 @@
 //! Lines of a script and questions 5 to 11.
 use crate::facts::{all_facts, close, first_facts, pass, Facts, T};
-use crate::rule::{check_rule, may_name, Node, Rule};
+use crate::form::Word;
+use crate::rule::{check_rule_in, may_name, Node, Rule};
 use crate::{no, No};
 
 pub const MOST_LINES: usize = 1024;
@@ -11,32 +12,43 @@ pub struct Line {
     pub r: u8,
     pub c: u16,
     pub target: u16,
+    /// what stands below the instruction in its word: an unused field, of the second form alone
+    pub zero: u32,
     pub facts: Facts,
 }
 
 impl Line {
     pub fn new(op: u8, r: u8, c: u16, target: u16) -> Line {
-        Line { op, r, c, target, facts: Facts::none() }
+        Line { op, r, c, target, zero: 0, facts: Facts::none() }
     }
 
     pub fn decode(word: u32) -> Line {
         Line::new((word >> 28) as u8, (word >> 24 & 15) as u8, (word >> 10 & 0x3fff) as u16, (word & 0x3ff) as u16)
     }
 
+    /// The instruction, which has 32 bits in both forms.
     pub fn word(&self) -> u32 {
         (self.op as u32) << 28 | (self.r as u32) << 24 | (self.c as u32) << 10 | self.target as u32
     }
 
     /// Eight words: the instruction and seven sets of facts.
+    pub fn decode_annotated_in<W: Word>(words: &[W]) -> Line {
+        let first = words[0].at_top();
+        let facts = Facts { set: std::array::from_fn(|k| words[1 + k].at_top()) };
+        Line { zero: first as u32, facts, ..Line::decode((first >> 32) as u32) }
+    }
+
+    pub fn encode_annotated_in<W: Word>(&self) -> [W; 8] {
+        let first = u64::from(self.word()) << 32 | u64::from(self.zero);
+        std::array::from_fn(|k| W::from_top(if k == 0 { first } else { self.facts.set[k - 1] }))
+    }
+
     pub fn decode_annotated(words: &[u32]) -> Line {
-        Line { facts: Facts { set: words[1..8].try_into().unwrap() }, ..Line::decode(words[0]) }
+        Line::decode_annotated_in(words)
     }
 
     pub fn encode_annotated(&self) -> [u32; 8] {
-        let mut w = [0; 8];
-        w[0] = self.word();
-        w[1..].copy_from_slice(&self.facts.set);
-        w
+        self.encode_annotated_in()
     }
 
     pub fn uses_target(&self) -> bool {
@@ -69,6 +81,7 @@ pub fn fields_allowed(nodes: &[Node], opcode_allowed: fn(u8) -> bool, l: &Line) 
     let (r0, c0, t0) = (l.r == 0, l.c == 0, l.target == 0);
     let named = || may_name(nodes, l.op, l.c as usize);
     opcode_allowed(l.op)
+        && l.zero == 0
         && match l.op {
             0 | 8 => r0 && c0 && t0,
             1 | 3 | 14 => t0,
@@ -102,9 +115,9 @@ fn check_code(rule: &Rule, opcode_allowed: fn(u8) -> bool, lines: &[Line]) -> Re
     Ok(())
 }
 
-/// One word a line: questions 1 to 7.
-fn check_words(rule: &[u32], opcode_allowed: fn(u8) -> bool, words: &[u32]) -> Result<(Rule, Vec<Line>), No> {
-    let rule = check_rule(rule)?;
+/// One word a line, of 32 bits whatever the rule's form: questions 1 to 7.
+fn check_words<W: Word>(rule: &[W], opcode_allowed: fn(u8) -> bool, words: &[u32]) -> Result<(Rule, Vec<Line>), No> {
+    let rule = check_rule_in(rule)?;
     // 5. 1 to 1,024 whole lines?
     if words.is_empty() || words.len() > MOST_LINES {
         return no(5, 0);
@@ -115,31 +128,45 @@ fn check_words(rule: &[u32], opcode_allowed: fn(u8) -> bool, words: &[u32]) -> R
 }
 
 /// A bare script: questions 1 to 7.
-pub fn check_bare(rule: &[u32], words: &[u32]) -> Result<(Rule, Vec<Line>), No> {
+pub fn check_bare_in<W: Word>(rule: &[W], words: &[u32]) -> Result<(Rule, Vec<Line>), No> {
     check_words(rule, bare_opcode, words)
 }
 
+pub fn check_bare(rule: &[u32], words: &[u32]) -> Result<(Rule, Vec<Line>), No> {
+    check_bare_in(rule, words)
+}
+
 /// The instructions of an annotated script without their facts: questions 1 to 7.
-pub fn check_instructions(rule: &[u32], words: &[u32]) -> Result<(Rule, Vec<Line>), No> {
+pub fn check_instructions_in<W: Word>(rule: &[W], words: &[u32]) -> Result<(Rule, Vec<Line>), No> {
     check_words(rule, annotated_opcode, words)
 }
 
-/// An annotated script: questions 1 to 11.
-pub fn check_script(rule: &[u32], words: &[u32]) -> Result<(Rule, Vec<Line>), No> {
-    let rule = check_rule(rule)?;
+pub fn check_instructions(rule: &[u32], words: &[u32]) -> Result<(Rule, Vec<Line>), No> {
+    check_instructions_in(rule, words)
+}
+
+/// An annotated script, after its rule: questions 5 to 8.
+pub fn check_noted<W: Word>(rule: &Rule, words: &[W]) -> Result<Vec<Line>, No> {
     // 5. 1 to 1,024 whole lines?
     if words.len() % 8 != 0 || words.is_empty() || words.len() / 8 > MOST_LINES {
         return no(5, 0);
     }
-    let lines: Vec<Line> = words.chunks(8).map(Line::decode_annotated).collect();
-    check_code(&rule, annotated_opcode, &lines)?;
+    let lines: Vec<Line> = words.chunks(8).map(Line::decode_annotated_in).collect();
+    check_code(rule, annotated_opcode, &lines)?;
     // 8. Facts only where they belong?
-    let all = all_facts(&rule);
+    let all = all_facts(rule);
     for (i, l) in lines.iter().enumerate() {
         if !l.facts.among(&all) {
             return no(8, i);
         }
     }
+    Ok(lines)
+}
+
+/// An annotated script: questions 1 to 11.
+pub fn check_script_in<W: Word>(rule: &[W], words: &[W]) -> Result<(Rule, Vec<Line>), No> {
+    let rule = check_rule_in(rule)?;
+    let lines = check_noted(&rule, words)?;
     // 9. Line 0's facts among the first facts?
     if !lines[0].facts.among(&first_facts(&rule)) {
         return no(9, 0);
@@ -160,8 +187,16 @@ pub fn check_script(rule: &[u32], words: &[u32]) -> Result<(Rule, Vec<Line>), No
     Ok((rule, lines))
 }
 
+pub fn check_script(rule: &[u32], words: &[u32]) -> Result<(Rule, Vec<Line>), No> {
+    check_script_in(rule, words)
+}
+
+pub fn encode_lines_in<W: Word>(lines: &[Line]) -> Vec<W> {
+    lines.iter().flat_map(Line::encode_annotated_in).collect()
+}
+
 pub fn encode_lines(lines: &[Line]) -> Vec<u32> {
-    lines.iter().flat_map(|l| l.encode_annotated()).collect()
+    encode_lines_in(lines)
 }
 
 pub fn instruction_words(lines: &[Line]) -> Vec<u32> {

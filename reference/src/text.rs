@@ -1,6 +1,7 @@
 //! Rules typed as text: questions 16, 17, 18 and 13, then the nodes.
 use self::Formula::*;
 use crate::facts::{planted, Fault};
+use crate::form::{hand_over, Word};
 use crate::rule::{Node, MOST_NODES};
 use crate::{no, No, TOP};
 
@@ -261,29 +262,32 @@ fn write(formula: Formula, nodes: &mut Vec<Node>) -> u8 {
     nodes.len() as u8 - 1
 }
 
-/// Questions 16, 17 and 18, then the formula. Only one of at most 32 nodes is put together, so that its depth has a bound.
-pub fn read_formula(text: &[u8]) -> Result<Formula, No> {
+/// Questions 16, 17 and 18, then the formula. Only one of at most so many nodes is put together, so that its depth has a bound.
+pub fn read_formula_within(text: &[u8], most_nodes: usize) -> Result<Formula, No> {
     let tokens = tokens(text)?;
     for token in &tokens {
         check_range(&token.item)?;
     }
-    // 18. Has its table at most 32 nodes?
-    if tokens.iter().map(|token| nodes_added(&token.item)).sum::<usize>() > MOST_NODES {
+    // 18. Has its table at most 32 nodes, where the second form is asked for at most 64?
+    if tokens.iter().map(|token| nodes_added(&token.item)).sum::<usize>() > most_nodes {
         return no(18, 0);
     }
     Ok(formula(&tokens))
 }
 
+pub fn read_formula(text: &[u8]) -> Result<Formula, No> {
+    read_formula_within(text, MOST_NODES)
+}
+
 /// Questions 16, 17, 18 and 13, then the nodes, to the start of `out`; how many there are.
-pub fn read_text(text: &[u8], out: &mut [u32]) -> Result<usize, No> {
+pub fn read_text_in<W: Word>(text: &[u8], out: &mut [W]) -> Result<usize, No> {
     let mut nodes = vec![];
-    write(read_formula(text)?, &mut nodes);
-    // 13. Is there a word for each node in the output?
-    if out.len() < nodes.len() {
-        return no(13, 0);
-    }
-    for (word, node) in out.iter_mut().zip(&nodes) {
-        *word = node.encode();
-    }
+    write(read_formula_within(text, W::MOST_NODES)?, &mut nodes);
+    let words: Vec<W> = nodes.iter().map(Node::encode_in).collect();
+    hand_over(&words, out)?;
     Ok(nodes.len())
+}
+
+pub fn read_text(text: &[u8], out: &mut [u32]) -> Result<usize, No> {
+    read_text_in(text, out)
 }

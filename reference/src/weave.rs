@@ -1,7 +1,8 @@
 //! The weaver, with labels: the line count is found by writing, not by the formula.
 use crate::facts::{planted, Facts, Fault, A, B, C, F, M, T, W};
+use crate::form::{hand_over, Word};
 use crate::rule::Rule;
-use crate::script::{check_bare, encode_lines, Line, MOST_LINES};
+use crate::script::{check_bare_in, encode_lines_in, Line, MOST_LINES};
 use crate::{no, No};
 
 type Label = usize;
@@ -163,8 +164,8 @@ pub fn weave_lines(rule: &Rule, bare: &[Line]) -> (Vec<Line>, Vec<usize>) {
 }
 
 /// Questions 1 to 7, 12 and 13; writes eight words a line; answers the line count.
-pub fn weave(rule: &[u32], bare: &[u32], output: &mut [u32]) -> Result<usize, No> {
-    let (rule, bare) = check_bare(rule, bare)?;
+pub fn weave_in<X: Word>(rule: &[X], bare: &[u32], output: &mut [X]) -> Result<usize, No> {
+    let (rule, bare) = check_bare_in(rule, bare)?;
     let (mut lines, _) = weave_lines(&rule, &bare);
     if planted(Fault::LaterMentionsFree) {
         lines.truncate(bare.iter().map(|l| if l.op == 8 { rule.block_lines() } else { 1 }).sum());
@@ -173,11 +174,10 @@ pub fn weave(rule: &[u32], bare: &[u32], output: &mut [u32]) -> Result<usize, No
     if lines.len() > MOST_LINES {
         return no(12, 0);
     }
-    // 13. Eight words for each in the output?
-    if output.len() < 8 * lines.len() {
-        return no(13, 0);
-    }
-    let words = encode_lines(&lines);
-    output[..words.len()].copy_from_slice(&words);
+    hand_over(&encode_lines_in(&lines), output)?;
     Ok(lines.len())
+}
+
+pub fn weave(rule: &[u32], bare: &[u32], output: &mut [u32]) -> Result<usize, No> {
+    weave_in(rule, bare, output)
 }

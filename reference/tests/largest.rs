@@ -15,7 +15,7 @@ const HALT: Line = line(0, 0, 0, 0);
 const PRESENT: Line = line(8, 0, 0, 0);
 
 const fn line(op: u8, r: u8, c: u16, target: u16) -> Line {
-    Line { op, r, c, target, facts: Facts { set: [0; 7] } }
+    Line { op, r, c, target, zero: 0, facts: Facts { set: [0; 7] } }
 }
 
 fn go(target: u16) -> Line {
@@ -28,7 +28,7 @@ fn find(rule: &[u32], lines: &[Line]) -> Result<(Vec<Line>, usize), No> {
     let count = find_facts(rule, &instruction_words(lines), &mut out)?;
     let (_, found) = check_script(rule, &out).expect("the largest facts are accepted");
     assert_eq!(instruction_words(&found), instruction_words(lines));
-    assert_eq!(count, found.iter().map(|l| l.facts.set.map(u32::count_ones).iter().sum::<u32>() as usize).sum::<usize>());
+    assert_eq!(count, found.iter().map(|l| l.facts.set.map(u64::count_ones).iter().sum::<u32>() as usize).sum::<usize>());
     Ok((found, count))
 }
 
@@ -318,7 +318,7 @@ fn every_obeying(rule: &Rule, lines: &mut [Line], at: usize, left: &mut u32, put
     };
     let room = if at == 0 { first_facts(rule) } else { all_facts(rule) };
     let room = (0..at).filter_map(|i| to(&lines[i], i, at)).fold(room, |f, g| f.meet(&g));
-    let ones: u32 = room.set.map(u32::count_ones).iter().sum();
+    let ones: u32 = room.set.map(u64::count_ones).iter().sum();
     if ones > 16 {
         return false;
     }

@@ -17,7 +17,7 @@ const A1: u32 = 0x2200_0800;
 const B2: u32 = 0x4400_1000;
 const E12: u32 = 0xc200_1000;
 
-const HALT: Line = Line { op: 0, r: 0, c: 0, target: 0, facts: Facts { set: [0; 7] } };
+const HALT: Line = Line { op: 0, r: 0, c: 0, target: 0, zero: 0, facts: Facts { set: [0; 7] } };
 const PRESENT: Line = Line { op: 8, ..HALT };
 
 const fn implies(left: u32, right: u32) -> u32 {

@@ -1,7 +1,7 @@
 //! Random requests: what passes every question, what is spoiled bit by bit, several faults at once, lengths one short and one
 //! long.
 use crate::{guards, texts};
-use reference::facts::{close, A, B, C, F, M, T, W};
+use reference::facts::{bit, close, A, B, C, F, M, T, W};
 use reference::generate;
 use reference::judge::{first_priors, next_priors, values_now};
 use reference::largest::note_largest;
@@ -253,7 +253,7 @@ fn annotated(g: &mut Rng, rule: &Rule, spoiled: usize) -> Vec<u32> {
             for set in &mut l.facts.set {
                 for node in 0..rule.len() {
                     if g.chance(1, every) {
-                        *set &= !(1 << (31 - node));
+                        *set &= !bit(node);
                     }
                 }
             }

@@ -3,7 +3,7 @@
 use compare::compare::{compare, put, Met};
 use compare::requests::{request, Request};
 use compare::{faced, proved};
-use reference::facts::{all_facts, first_facts, pass, with_planted_fault, Facts, Fault, A, B, C, M, T, W};
+use reference::facts::{all_facts, bit, first_facts, pass, with_planted_fault, Facts, Fault, A, B, C, M, T, W};
 use reference::judge::{first_priors, judge, next_priors, states, values_now};
 use reference::largest::find_facts;
 use reference::rule::{check_rule, Rule};
@@ -361,7 +361,7 @@ fn refused_met(rule: &Rule, lines: &[Line], refusal: No) -> Option<&'static str>
     let (shared, past) = (rule.is_shared(l.c as usize), rule.is_past(l.c as usize));
     // facts of shared nodes alone
     let only = |fact: usize, facts: Facts| {
-        let nodes: u32 = rule.shared_nodes().iter().map(|&i| 1 << (31 - i)).sum();
+        let nodes: u64 = rule.shared_nodes().into_iter().map(bit).sum();
         facts.set[fact] != 0 && facts.set[fact] & !nodes == 0 && (0..7).all(|k| k == fact || facts.set[k] == 0)
     };
     let beyond = |noted: Facts, allowed: Facts| Facts { set: std::array::from_fn(|k| noted.set[k] & !allowed.set[k]) };
