@@ -32,11 +32,12 @@ use Rattle.largest.proofs.LargestLaws.{largest-closed}
 use Rattle.largest.proofs.LargestLoop.{found-lines, line-annotate, count-as}
 use Rattle.largest.proofs.ObeyLaws.{code-at, length-bare, fit-again}
 use Rattle.largest.proofs.LargestPromise.{ready, finding}
-use Rattle.finder.specs.Rows.{tableIn, notesAt, Asked, LargestAt}
-use Rattle.output.specs.Written.{storedLine, over}
+use Rattle.finder.specs.Rows.{notesAt, Asked, LargestAt}
 use Rattle.finder.specs.Kept.{gather, keptLines}
 use Rattle.finder.specs.Answers.{HandsOut}
-use Rattle.output.proofs.OverLaws.{over-then, length-over, length-stored}
+use Rattle.rule.specs.Nodes.{tableIn, formIn}
+use Rattle.facts.specs.Written.{storedLine, over}
+use Rattle.facts.proofs.OverLaws.{over-then, length-over, length-stored}
 
 -- ---- the lines found
 
@@ -47,26 +48,26 @@ gather-front g zero = sym (append-nil (g 0))
 gather-front g (suc n) = ap (λ ws. ws ++ g (suc n)) (gather-front g n) ∙ append-assoc (g 0) (gather (λ l. g (suc l)) n) (g (suc n))
 
 words-gather : (code : Code) (N : Notes) (g : ℕ → List ℕ)
-    → ((l : ℕ) → l < length code → g l ≡ lineWords form32 (record { instruction = instructionAt code l; annotation = N l }))
-    → gather g (length code) ≡ wordsOf form32 (annotate code N)
+    → ((l : ℕ) → l < length code → g l ≡ lineWords formIn (record { instruction = instructionAt code l; annotation = N l }))
+    → gather g (length code) ≡ wordsOf formIn (annotate code N)
 unfolding gather wordsOf annotate
 words-gather [] N g h = refl
 words-gather (i ∷ code) N g h =
     gather-front g (length code)
     ∙ ap₂ _++_ (h 0 (omega arith)) (words-gather code (λ l. N (suc l)) (λ l. g (suc l)) (λ l k. h (suc l) (omega arith)))
 
-line-is : (w : ℕ) (x : Line) → w ≡ wordFor (x .instruction) → storedLine w (x .annotation) ≡ lineWords form32 x
+line-is : (w : ℕ) (x : Line) → w ≡ wordFor (x .instruction) → storedLine w (x .annotation) ≡ lineWords formIn x
 unfolding storedLine lineWords
 line-is w x e = ap (λ v. storedLine v (x .annotation)) e
 
 module _ (rule ws notes : List ℕ) (asked : Asked rule ws) (a : LargestAt rule ws notes) where
-  found-is : annotate (bareCode ws) (notesAt notes) ≡ foundLines form32 rule ws
+  found-is : annotate (bareCode ws) (notesAt notes) ≡ foundLines formIn rule ws
   unfolding foundLines
-  found-is = let r = ready form32 rule ws asked in
-      found-lines (tableIn rule) (r .ordered) (bareCode ws) (form32 .width) (r .few) (notesAt notes) a
+  found-is = let r = ready formIn rule ws asked in
+      found-lines (tableIn rule) (r .ordered) (bareCode ws) (formIn .width) (r .few) (notesAt notes) a
 
   found-line : (l : ℕ) → l < length ws
-      → lineAt (foundLines form32 rule ws) l ≡ record { instruction = instructionRead (getD ws l 0); annotation = notesAt notes l }
+      → lineAt (foundLines formIn rule ws) l ≡ record { instruction = instructionRead (getD ws l 0); annotation = notesAt notes l }
   found-line l h =
       ap (λ ls. lineAt ls l) (sym found-is) ∙ line-annotate (bareCode ws) (notesAt notes) l (omega (arith, length-bare ws))
       ∙ ap (λ i. record { instruction = i; annotation = notesAt notes l }) (code-at ws l)
@@ -76,42 +77,42 @@ module _ (rule ws notes : List ℕ) (asked : Asked rule ws) (a : LargestAt rule 
       → notesAt notes l (valueIs true) (length rule - 1) ≡ close (tableIn rule) (notesAt notes l) (valueIs true) (lastNode (tableIn rule))
   last-closed l h =
       let t = tableIn rule in
-      let r = ready form32 rule ws asked in
-      ap (λ n. notesAt notes l (valueIs true) (n - 1)) (sym (length-table form32 rule))
+      let r = ready formIn rule ws asked in
+      ap (λ n. notesAt notes l (valueIs true) (n - 1)) (sym (length-table formIn rule))
       ∙ bool-ext _ _ (extends t (notesAt notes l) (valueIs true) (lastNode t))
       (largest-closed t (r .ordered) (bareCode ws) (notesAt notes) a l (omega (arith, length-bare ws)) (valueIs true) (lastNode t))
 
   pub known-yes : (l : ℕ) → l < length ws → (p b : Bool) → p ≡ isPresent (instructionRead (getD ws l 0)) → p ≡ true
-      → b ≡ notesAt notes l (valueIs true) (length rule - 1) → b ≡ presentKnown (tableIn rule) (lineAt (foundLines form32 rule ws) l)
+      → b ≡ notesAt notes l (valueIs true) (length rule - 1) → b ≡ presentKnown (tableIn rule) (lineAt (foundLines formIn rule ws) l)
   unfolding presentKnown
   known-yes l h p b e y d = rw (found-line l h, ← e, y) (d ∙ last-closed l h)
 
   pub known-no : (l : ℕ) → l < length ws → (p : Bool) → p ≡ isPresent (instructionRead (getD ws l 0)) → p ≡ false
-      → true ≡ presentKnown (tableIn rule) (lineAt (foundLines form32 rule ws) l)
+      → true ≡ presentKnown (tableIn rule) (lineAt (foundLines formIn rule ws) l)
   unfolding presentKnown
   known-no l h p e n = rw (found-line l h, ← e, n)
 
   -- the words of the lines kept are those found
-  pub kept-found : ((l : ℕ) → l < length ws → getD ws l 0 < 4294967296) → keptLines ws notes (length ws) ≡ foundWords form32 rule ws
+  pub kept-found : ((l : ℕ) → l < length ws → getD ws l 0 < 4294967296) → keptLines ws notes (length ws) ≡ foundWords formIn rule ws
   unfolding foundWords
   kept-found small =
-      let r = ready form32 rule ws asked in
+      let r = ready formIn rule ws asked in
       ap (λ n. keptLines ws notes n) (sym (length-bare ws))
       ∙ words-gather (bareCode ws) (notesAt notes) (λ l. storedLine (getD ws l 0) (notesAt notes l)) (λ l h.
       let i : l < length ws = omega (arith, length-bare ws) in
       line-is (getD ws l 0) (record { instruction = instructionAt (bareCode ws) l; annotation = notesAt notes l })
       (sym (ap wordFor (code-at ws l) ∙ fit-again (getD ws l 0) (small l i) (r .six l i .fit))))
-      ∙ ap (wordsOf form32) found-is
+      ∙ ap (wordsOf formIn) found-is
 
   -- and so are the facts counted
-  pub count-found : countFacts 64 (length ws) (notesAt notes) ≡ foundCount form32 rule ws
+  pub count-found : countFacts 64 (length ws) (notesAt notes) ≡ foundCount formIn rule ws
   unfolding foundCount form32
   count-found =
-      let r = ready form32 rule ws asked in
+      let r = ready formIn rule ws asked in
       let few : length (tableIn rule) ≤ 32 = r .few in
       count-narrow 32 64 (length ws) (notesAt notes) (omega arith)
       (λ l h f k e. let i = belongs-in (tableIn rule) (r .ordered) f k (a .obeys .belong l (omega (arith, length-bare ws)) f k e) in omega arith)
-      ∙ count-as 32 (length ws) (notesAt notes) (notesOf (foundLines form32 rule ws)) (λ l h f k.
+      ∙ count-as 32 (length ws) (notesAt notes) (notesOf (foundLines formIn rule ws)) (λ l h f k.
       ap (λ x. x .annotation f k) (sym (found-line l h)))
 
 -- ---- one line more is written
@@ -164,43 +165,43 @@ writing-next ws notes out₀ out p count n l F f h c d i =
 -- what find_facts promises of its answer and its output
 abbrev pub Gives : (rule ws out : List ℕ) → Answer ℕ → (out′ : List ℕ) → Type 0
 Gives rule ws out a out′ =
-    (a ≡ foundAnswer form32 rule ws out) × ((out′ ≡ foundOutput form32 rule ws out) × HandsOut rule ws a out′)
+    (a ≡ foundAnswer formIn rule ws out) × ((out′ ≡ foundOutput formIn rule ws out) × HandsOut rule ws a out′)
 
 module _ (rule ws out : List ℕ) where
-  abbrev promised : Found form32 rule ws
-  promised = finding form32 good32 rule ws
+  abbrev promised : Found formIn rule ws
+  promised = finding formIn good32 rule ws
 
   -- a refusal
-  refusal : (q i : ℕ) → (foundAnswer form32 rule ws out ≡ refused q i) × (foundOutput form32 rule ws out ≡ out) → Gives rule ws out (refused q i) out
+  refusal : (q i : ℕ) → (foundAnswer formIn rule ws out ≡ refused q i) × (foundOutput formIn rule ws out ≡ out) → Gives rule ws out (refused q i) out
   refusal q i e = (sym (e .0), (sym (e .1), λ n d. let z : _≡_ {A = ℕ} 0 1 = cc in absurd (omega arith)))
 
-  found-after : checkInstructions form32 rule ws ≡ passed tt → checkFound form32 rule ws ≡ question19 form32 rule ws
+  found-after : checkInstructions formIn rule ws ≡ passed tt → checkFound formIn rule ws ≡ question19 formIn rule ws
   unfolding checkFound
   found-after e = then-passed _ _ e
 
-  pub seven-no : (q i : ℕ) → checkInstructions form32 rule ws ≡ refused q i → Gives rule ws out (refused q i) out
+  pub seven-no : (q i : ℕ) → checkInstructions formIn rule ws ≡ refused q i → Gives rule ws out (refused q i) out
   unfolding checkFound
   seven-no q i e = refusal q i (promised .refuses q i (then-refused _ _ q i e) out)
 
-  pub nineteen-no : (q i : ℕ) → Asked rule ws → question19 form32 rule ws ≡ refused q i → Gives rule ws out (refused q i) out
+  pub nineteen-no : (q i : ℕ) → Asked rule ws → question19 formIn rule ws ≡ refused q i → Gives rule ws out (refused q i) out
   nineteen-no q i asked e = refusal q i (promised .refuses q i (found-after asked ∙ e) out)
 
-  module _ (asked : Asked rule ws) (known : question19 form32 rule ws ≡ passed tt) where
-    found-passed : checkFound form32 rule ws ≡ passed tt
+  module _ (asked : Asked rule ws) (known : question19 formIn rule ws ≡ passed tt) where
+    found-passed : checkFound formIn rule ws ≡ passed tt
     found-passed = found-after asked ∙ known
 
     pub room-no : length out < 8 * length ws → Gives rule ws out (refused 13 0) out
     room-no h = refusal 13 0 (promised .short found-passed out h)
 
-    whole : length (foundWords form32 rule ws) ≡ 8 * length ws
+    whole : length (foundWords formIn rule ws) ≡ 8 * length ws
     whole = promised .largest found-passed .annotates .whole
 
-    pub all-yes : (out′ : List ℕ) (count : ℕ) → 8 * length ws ≤ length out → count ≡ foundCount form32 rule ws
-        → out′ ≡ over (foundWords form32 rule ws) out → Gives rule ws out (passed count) out′
+    pub all-yes : (out′ : List ℕ) (count : ℕ) → 8 * length ws ≤ length out → count ≡ foundCount formIn rule ws
+        → out′ ≡ over (foundWords formIn rule ws) out → Gives rule ws out (passed count) out′
     unfolding foundOutput
     all-yes out′ count h e d =
         let yes = promised .succeeds found-passed out h .0 in
-        let first = ap (take (8 * length ws)) d ∙ take-at (foundWords form32 rule ws) (drop (length (foundWords form32 rule ws)) out) (8 * length ws) whole in (
+        let first = ap (take (8 * length ws)) d ∙ take-at (foundWords formIn rule ws) (drop (length (foundWords formIn rule ws)) out) (8 * length ws) whole in (
           ap passed e ∙ sym yes,
-          (d ∙ rw yes refl, λ n z. subst (Largest form32 (checkScript form32 rule) ws) (sym first) (promised .largest found-passed)),
+          (d ∙ rw yes refl, λ n z. subst (Largest formIn (checkScript formIn rule) ws) (sym first) (promised .largest found-passed)),
         )

@@ -23,10 +23,11 @@ use borrow.Author.Tests.{eqb-true, eqb-false}
 use Rattle.spec.specs.Facts.{Fact, valueIs, priorIs, keptIsPrior, workIsNext, workIsPrior, wordNumber, Facts, _⊑_}
 use Rattle.spec.proofs.BoolLaws.{clash, and-both, both-and}
 use Rattle.sets.specs.Sets.{setOf}
-use Rattle.checker.specs.FactSets.{wordOf, factsOf}
-use Rattle.checker.specs.declared.facts.Facts.{Facts as FactWords}
+use Rattle.facts.specs.FactSets.{wordOf}
+use Rattle.facts.specs.declared.Facts.{Facts as FactWords}
 use Rattle.sets.proofs.WordLaws.{word-and}
 use Rattle.finder.specs.Rows.{notesAt, flagOf, total, metAt, changesAt, FlagSet, Lessens, WayDone}
+use Rattle.facts.specs.FactSets.{factsOf}
 use Rattle.finder.proofs.FlagLaws.{same-or-other}
 
 total-set : (ws : List ℕ) (i v : ℕ) → i < length ws → total (set ws i v) + getD ws i 0 ≡ total ws + v

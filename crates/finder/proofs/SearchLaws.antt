@@ -13,7 +13,7 @@ use mathlib.Core.Logic.{inl, inr}
 use mathlib.Core.Bool.{Bool, true, false, cond, _||_}
 use mathlib.Core.Option.{Option, none, some}
 use mathlib.Core.List.{List}
-use Prim.Native.Nat.{ℕ, zero, suc, _+_, _*_, _%_, _≤_, _<_}
+use Prim.Native.Nat.{ℕ, zero, suc, _+_, _*_, _≤_, _<_}
 use native.Mathlib.Nat.{le-refl}
 use native.Mathlib.Numerals.{add-one}
 use native.Mathlib.Omega.{arith}
@@ -21,8 +21,8 @@ use lib.ListN.{length, getD, set, length-set, replicate, length-replicate}
 use lib.Seq.{getD-set-same, getD-set-other}
 use borrow.Author.Tests.{ltb-true}
 use Rattle.spec.specs.Questions.{passed}
-use Rattle.spec.specs.Rule.{form32, Table, checkRule}
-use Rattle.spec.specs.Script.{fieldsOf, instructionRead, Code, bareCode, instructionAt, targetOf, goesOn, namesAllowed, isLine, followersExist}
+use Rattle.spec.specs.Rule.{form32, Table}
+use Rattle.spec.specs.Script.{instructionRead, Code, bareCode, instructionAt, targetOf, goesOn, namesAllowed, isLine, followersExist, Instruction}
 use Rattle.spec.specs.Facts.{wordNumber, Facts, _⊑_, belongs, close, pass, firstFacts}
 use Rattle.spec.specs.Check.{passedOn}
 use Rattle.largest.specs.Notes.{Notes, followerOf, passedAt, Obeys, startNotes}
@@ -34,10 +34,11 @@ use Rattle.largest.proofs.LargestLaws.{passed-mono, around-start, around-same, 
 use Rattle.largest.proofs.LargestLoop.{flagged-start, flagged-next, flagged-end}
 use Rattle.largest.proofs.LargestPromise.{ready}
 use Rattle.sets.specs.Sets.{setOf, capacity}
-use Rattle.checker.specs.FactSets.{factsOf}
-use Rattle.checker.specs.declared.facts.Facts.{Facts as FactWords}
+use Rattle.facts.specs.declared.Facts.{Facts as FactWords}
 use Rattle.script.specs.Lines.{targetWhere}
-use Rattle.finder.specs.Rows.{tableIn, notesAt, flagOf, HasLine, Room, Asked, total, Put, FlagSet, NextFlag, Search, Searched, Pushed, Swept, LargestAt}
+use Rattle.finder.specs.Rows.{notesAt, flagOf, HasLine, Room, Asked, total, Put, FlagSet, NextFlag, Search, Searched, Pushed, Swept, LargestAt}
+use Rattle.facts.specs.FactSets.{factsOf}
+use Rattle.rule.specs.Nodes.{tableIn, RulePasses, formIn}
 use Rattle.finder.proofs.FlagLaws.{same-or-other}
 use Rattle.finder.proofs.RowLaws.{or-none, or-some, number-small, wordsIn, word-of, Spread}
 
@@ -60,14 +61,14 @@ room-same n notes notes′ flags flags′ a b r = record { words = omega (arith,
 
 module _ (rule ws : List ℕ) (asked : Asked rule ws) where
   ordered : InOrder (tableIn rule)
-  ordered = ready form32 rule ws asked .ordered
+  ordered = ready formIn rule ws asked .ordered
 
   pub few-nodes : length rule ≤ capacity
   unfolding form32
-  few-nodes = omega (arith, ready form32 rule ws asked .few, length-table form32 rule)
+  few-nodes = omega (arith, ready formIn rule ws asked .few, length-table formIn rule)
 
-  pub rule-passed : checkRule form32 rule ≡ passed tt
-  rule-passed = ready form32 rule ws asked .rule-passed
+  pub rule-passed : RulePasses rule
+  rule-passed = ready formIn rule ws asked .rule-passed
 
   -- the notes are closed
   pub facts-closed : (notes flags : List ℕ) → Search (tableIn rule) (bareCode ws) notes flags → (l : ℕ) → l < length ws → (F : Facts) → F ≡ notesAt notes l
@@ -77,29 +78,29 @@ module _ (rule ws : List ℕ) (asked : Asked rule ws) where
       fun-ext (λ f. fun-ext (λ k. bool-ext _ _ (closed f k) (extends (tableIn rule) F f k)))
 
   pub some-node : 0 < length rule
-  some-node = omega (arith, ready form32 rule ws asked .some-node, length-table form32 rule)
+  some-node = omega (arith, ready formIn rule ws asked .some-node, length-table formIn rule)
 
   pub some-line : 0 < length ws
-  some-line = ready form32 rule ws asked .some-line
+  some-line = ready formIn rule ws asked .some-line
 
   pub few-lines : length ws ≤ 1024
-  few-lines = ready form32 rule ws asked .few-lines
+  few-lines = ready formIn rule ws asked .few-lines
 
   pub names-at : (l : ℕ) → l < length ws → namesAllowed (tableIn rule) (instructionRead (getD ws l 0)) ≡ true
-  names-at l h = ready form32 rule ws asked .six l h .names
+  names-at l h = ready formIn rule ws asked .six l h .names
 
   pub target-in : (l m : ℕ) → l < length ws → targetOf (instructionRead (getD ws l 0)) ≡ some m → m < length ws
   unfolding followersExist
   target-in l m h e =
       let i = instructionRead (getD ws l 0) in
-      let a = and-both (isLine (length ws) (targetOf i)) _ (ready form32 rule ws asked .follow l h) .0 in
+      let a = and-both (isLine (length ws) (targetOf i)) _ (ready formIn rule ws asked .follow l h) .0 in
       ltb-true m (length ws) (subst (λ o. isLine (length ws) o ≡ true) e a)
 
   pub next-in : (l : ℕ) → l < length ws → goesOn (instructionRead (getD ws l 0)) ≡ true → l + 1 < length ws
   unfolding followersExist
   next-in l h e =
       let i = instructionRead (getD ws l 0) in
-      let a = and-both (isLine (length ws) (targetOf i)) _ (ready form32 rule ws asked .follow l h) .1 in
+      let a = and-both (isLine (length ws) (targetOf i)) _ (ready formIn rule ws asked .follow l h) .1 in
       omega (arith, ltb-true (suc l) (length ws) (not-either (goesOn i) _ a e))
 
 -- ---- a line pushed
@@ -112,23 +113,20 @@ pub record Leads (t : Table) (code : Code) (l : ℕ) (o p : Option ℕ) (F Y N :
   pub at-target : Y ≡ close t (pass t (instructionAt code l) true F)
   pub at-next : N ≡ close t (pass t (instructionAt code l) false F)
 
-pub leads : (rule ws : List ℕ) (l : ℕ) (jumps onward : Bool) (F : Facts) → l < length ws
-    → targetWhere jumps (fieldsOf (getD ws l 0) .target) ≡ targetOf (instructionRead (getD ws l 0))
-    → onward ≡ goesOn (instructionRead (getD ws l 0))
-    → Leads (tableIn rule) (bareCode ws) l (cond jumps (some (getD ws l 0 % 1024)) none) (cond onward (some (l + 1)) none) F
-    (close (tableIn rule) (pass (tableIn rule) (instructionRead (getD ws l 0)) true F))
-    (close (tableIn rule) (pass (tableIn rule) (instructionRead (getD ws l 0)) false F))
-unfolding fieldsOf
-leads rule ws l jumps onward F h to on =
+pub leads : (rule ws : List ℕ) (l target : ℕ) (i : Instruction) (jumps onward : Bool) (F : Facts) → l < length ws
+    → i ≡ instructionRead (getD ws l 0) → targetWhere jumps target ≡ targetOf i → onward ≡ goesOn i
+    → Leads (tableIn rule) (bareCode ws) l (cond jumps (some target) none) (cond onward (some (l + 1)) none) F
+    (close (tableIn rule) (pass (tableIn rule) i true F)) (close (tableIn rule) (pass (tableIn rule) i false F))
+leads rule ws l target i jumps onward F h e to on =
     let t = tableIn rule in
-    let same = code-at ws l in
+    let same = code-at ws l ∙ sym e in
     record {
       a-line = omega (arith, length-bare ws);
       to-target = ap targetOf same ∙ sym to;
-      to-next = ap (λ i. cond (goesOn i) (some (suc l)) none) same ∙ ap (λ b. cond b (some (suc l)) none) (sym on)
+      to-next = ap (λ j. cond (goesOn j) (some (suc l)) none) same ∙ ap (λ b. cond b (some (suc l)) none) (sym on)
           ∙ ap (λ m. cond onward (some m) none) (sym (add-one l));
-      at-target = ap (λ i. close t (pass t i true F)) (sym same);
-      at-next = ap (λ i. close t (pass t i false F)) (sym same);
+      at-target = ap (λ j. close t (pass t j true F)) (sym same);
+      at-next = ap (λ j. close t (pass t j false F)) (sym same);
     }
 
 module _ (t : Table) (ordered : InOrder t) (code : Code) (notes flags : List ℕ) (l : ℕ) (o p : Option ℕ) (Y N : Facts)

@@ -2,7 +2,7 @@
 use mathlib.Core.List.{List, [], _++_}
 use Prim.Native.Nat.{ℕ, zero, suc}
 use lib.ListN.{getD}
-use Rattle.output.specs.Written.{storedLine}
+use Rattle.facts.specs.Written.{storedLine}
 use Rattle.finder.specs.Rows.{notesAt}
 
 -- the words of n lines, one after another

@@ -9,14 +9,15 @@ use Prim.Native.Nat.{ℕ, _+_, _*_, _/_, _%_, _≤_, _<_}
 use lib.ListN.{length, getD, set}
 use lib.Dec.{eqb}
 use lib.Bits.{bitAnd}
-use Rattle.spec.specs.Questions.{passed}
-use Rattle.spec.specs.Rule.{form32, Table}
+use Rattle.spec.specs.Questions.{Checked, passed}
+use Rattle.spec.specs.Rule.{Table}
 use Rattle.spec.specs.Script.{Code, bareCode}
 use Rattle.spec.specs.Facts.{Fact, wordNumber, Facts, _⊑_, close}
 use Rattle.sets.specs.Sets.{setOf}
 use Rattle.largest.specs.Notes.{Notes, LargestNotes, Around, Flagged}
-use Rattle.largest.specs.Largest.{checkInstructions}
-pub use Rattle.rule.specs.Nodes.{tableIn}
+use Rattle.spec.specs.Check.{Lines}
+use Rattle.largest.specs.Largest.{checkInstructions, foundLines, question19}
+use Rattle.rule.specs.Nodes.{formIn, tableIn}
 
 -- ---- what is kept
 
@@ -40,7 +41,14 @@ pub record Room (lines : ℕ) (notes flags : List ℕ) : Type 0 where
 
 -- questions 1 to 7 have a yes
 abbrev pub Asked : (rule instructions : List ℕ) → Type 0
-Asked rule ws = checkInstructions form32 rule ws ≡ passed tt
+Asked rule ws = checkInstructions formIn rule ws ≡ passed tt
+
+-- the lines found, and question 19
+abbrev pub linesFound : (rule instructions : List ℕ) → Lines
+linesFound rule ws = foundLines formIn rule ws
+
+abbrev pub presentsAsked : (rule instructions : List ℕ) → Checked
+presentsAsked rule ws = question19 formIn rule ws
 
 -- the search's measure: the sum of the words
 unfoldable pub total : List ℕ → ℕ

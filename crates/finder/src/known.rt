@@ -1,23 +1,23 @@
 // Question 19: at each present, T of the last node in the largest facts.
 use crate::rows::load;
 use rule::answer::Answer;
+use script::instruction::decode;
 use script::line::is_present;
 use sets::has;
 ghost use mathlib.Core.Path.{_≡_};
 ghost use Prim.Native.Nat.{_*_, _≤_, _<_};
 ghost use lib.ListN.{length};
-ghost use Rattle.spec.specs.Rule.{form32};
 ghost use Rattle.spec.specs.Check.{lineAt, presentKnown};
-ghost use Rattle.largest.specs.Largest.{foundLines, question19};
 ghost use Rattle.rule.specs.Answers.{answerOf};
-ghost use Rattle.finder.specs.Rows.{tableIn, Asked, LargestAt};
+ghost use Rattle.rule.specs.Nodes.{tableIn};
+ghost use Rattle.finder.specs.Rows.{linesFound, presentsAsked, Asked, LargestAt};
 
 // The largest facts are closed.
 fn known_at(rule: &[u32], code: &[u32], notes: &[u64], l: usize) -> bool
     requires { ⌜ Asked (now rule) (now code) × LargestAt (now rule) (now code) (now notes) × (7 * length (now code) ≤ length (now notes)) × (l < length (now code)) ⌝ }
-    ensures { λ r. ⌜ r ≡ presentKnown (tableIn (now (rule .entry))) (lineAt (foundLines form32 (now (rule .entry)) (now (code .entry))) l) ⌝ }
+    ensures { λ r. ⌜ r ≡ presentKnown (tableIn (now (rule .entry))) (lineAt (linesFound (now (rule .entry)) (now (code .entry))) l) ⌝ }
 {
-    if is_present(code[l]) {
+    if is_present(decode(code[l])) {
         let x = load(notes, l);
         has(x.t, rule.len() - 1)
     } else {
@@ -27,7 +27,7 @@ fn known_at(rule: &[u32], code: &[u32], notes: &[u64], l: usize) -> bool
 
 pub(crate) fn ask_known(rule: &[u32], code: &[u32], notes: &[u64]) -> Answer
     requires { ⌜ Asked (now rule) (now code) × LargestAt (now rule) (now code) (now notes) × (7 * length (now code) ≤ length (now notes)) ⌝ }
-    ensures { λ r. ⌜ answerOf r ≡ question19 form32 (now (rule .entry)) (now (code .entry)) ⌝ }
+    ensures { λ r. ⌜ answerOf r ≡ presentsAsked (now (rule .entry)) (now (code .entry)) ⌝ }
 {
     let mut l = 0;
     while l < code.len() {

@@ -1,15 +1,15 @@
 // The lines found, written one after another, and their facts counted.
 use crate::rows::load;
-use checker::facts::Facts;
-use output::put_line;
+use facts::Facts;
+use facts::line::put_line;
 use sets::count;
 ghost use mathlib.Core.Path.{_≡_};
 ghost use Prim.Native.Nat.{_*_, _≤_};
 ghost use lib.ListN.{length};
 ghost use Rattle.largest.specs.Largest.{factsIn, countFacts};
 ghost use Rattle.sets.specs.Sets.{capacity};
-ghost use Rattle.checker.specs.FactSets.{factsOf};
-ghost use Rattle.output.specs.Written.{over};
+ghost use Rattle.facts.specs.FactSets.{factsOf};
+ghost use Rattle.facts.specs.Written.{over};
 ghost use Rattle.finder.specs.Rows.{notesAt};
 ghost use Rattle.finder.specs.Kept.{keptLines};
 

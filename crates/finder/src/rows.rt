@@ -1,11 +1,11 @@
 // The notes of the search, seven words a line.
 use crate::flags::raise;
-use checker::facts::Facts;
+use facts::Facts;
 ghost use mathlib.Core.Path.{_≡_};
 ghost use mathlib.Core.Option.{some};
 ghost use Prim.Native.Nat.{_<_, _≤_, _+_, _*_};
 ghost use lib.ListN.{length};
-ghost use Rattle.checker.specs.FactSets.{factsOf};
+ghost use Rattle.facts.specs.FactSets.{factsOf};
 ghost use Rattle.finder.specs.Rows.{notesAt, metAt, changesAt, HasLine, WayDone, Put};
 
 // The facts noted at line l.

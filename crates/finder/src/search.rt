@@ -6,10 +6,11 @@ use crate::flags::raise;
 use crate::rows::cut;
 use crate::rows::load;
 use crate::rows::put;
-use checker::closing::belonging;
 use checker::closing::first_facts;
-use checker::facts::Facts;
 use checker::passing::pass_on;
+use facts::Facts;
+use facts::belonging::belonging;
+use script::instruction::decode;
 use script::line::goes_on;
 use script::line::has_target;
 ghost use mathlib.Core.Path.{_≡_};
@@ -17,12 +18,11 @@ ghost use mathlib.Core.Bool.{cond, true};
 ghost use mathlib.Core.Option.{none, some};
 ghost use Prim.Native.Nat.{_<_};
 ghost use lib.ListN.{length};
-ghost use Rattle.spec.specs.Questions.{passed};
-ghost use Rattle.spec.specs.Rule.{form32, checkRule};
 ghost use Rattle.spec.specs.Script.{bareCode, instructionRead, namesAllowed};
 ghost use Rattle.spec.specs.Facts.{close, pass};
-ghost use Rattle.checker.specs.FactSets.{factsOf};
-ghost use Rattle.finder.specs.Rows.{tableIn, HasLine, Room, Asked, WayDone, Search, Pushed, Swept, Settled, LargestAt};
+ghost use Rattle.rule.specs.Nodes.{tableIn, RulePasses};
+ghost use Rattle.facts.specs.FactSets.{factsOf};
+ghost use Rattle.finder.specs.Rows.{HasLine, Room, Asked, WayDone, Search, Pushed, Swept, Settled, LargestAt};
 
 // One way out of a line with the closed facts x: line m, if it follows, keeps what is passed on. Whether some of its notes went.
 fn push_to(
@@ -35,7 +35,7 @@ fn push_to(
     notes: &mut [u64],
     flags: &mut [u64],
 ) -> bool
-    requires { ⌜ (checkRule form32 (now rule) ≡ passed tt) × (namesAllowed (tableIn (now rule)) (instructionRead word) ≡ true)
+    requires { ⌜ RulePasses (now rule) × (namesAllowed (tableIn (now rule)) (instructionRead word) ≡ true)
         × (close (tableIn (now rule)) (factsOf x) ≡ factsOf x) × (follows ≡ true → HasLine m (now notes) (now flags)) ⌝ }
     ensures { λ r. ⌜ WayDone (now (notes .entry)) (now (flags .entry)) (cond follows (some m) none)
         (close (tableIn (now (rule .entry))) (pass (tableIn (now (rule .entry))) (instructionRead word) taken (factsOf x)))
@@ -55,11 +55,11 @@ fn push(rule: &[u32], code: &[u32], notes: &mut [u64], flags: &mut [u64], l: usi
     ensures { λ r. ⌜ Pushed (now (rule .entry)) (now (code .entry)) (now (notes .entry)) (now (flags .entry)) l (now (notes .exit)) (now (flags .exit)) r ⌝ }
 {
     let word = code[l];
+    let i = decode(word);
     let x = load(notes, l);
     lower(flags, l);
-    let target = (word % 1024) as usize;
-    let a = push_to(rule, word, true, has_target(word), target, x, notes, flags);
-    let b = push_to(rule, word, false, goes_on(word), l + 1, x, notes, flags);
+    let a = push_to(rule, word, true, has_target(i), i.target, x, notes, flags);
+    let b = push_to(rule, word, false, goes_on(i), l + 1, x, notes, flags);
     a | b
 }
 

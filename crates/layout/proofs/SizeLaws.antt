@@ -3,11 +3,11 @@
 --     decide-few                         deciding a node takes no more lines than a block has: it is part of one
 --     countedTo, counted-none, counted-next, counted-all     a block's lines, node by node
 --     nodes-few, block-few, node-few, own-few     an accepted rule has at most 32 nodes, so a block and a decision at most 481 lines
---     since-lines, weak-lines, shared-lines, no-lines        what a node accounts for, by the kind of its word
+--     since-lines, weak-lines, shared-lines, no-lines        what a node accounts for, by what it is
 -- Assumes nothing.
 use mathlib.Core.Path.{_≡_, refl, sym, ap, ap₂, _∙_}
 use mathlib.Core.Logic.{_⊎_, inl, inr}
-use mathlib.Core.Bool.{Bool, true, false, cond, _||_}
+use mathlib.Core.Bool.{Bool, true, false, cond}
 use mathlib.Core.List.{List, [], _∷_}
 use Prim.Native.Nat.{ℕ, zero, suc, _+_, _-_, _*_, _≤_, _<_}
 use native.Mathlib.Nat.{le-refl}
@@ -16,17 +16,17 @@ use native.Mathlib.Numerals.{add-one}
 use lib.ListN.{length, getD, set}
 use lib.Seq.{getD-set-same, getD-set-other}
 use lib.Dec.{eqb, ltb}
-use borrow.Author.Tests.{ltb-true, eqb-true, ne-eqb}
-use Rattle.spec.specs.Questions.{all, count, sum, passed}
-use Rattle.spec.specs.Rule.{form32, nodeFields, Node, falseNode, testNode, impliesNode, sinceNode, weakPreviousNode, nodeOf, Table, nodeAt, lastNode, isFalse, isSince, isWeakPrevious, isPast, operands, mentions, isShared, checkRule}
+use borrow.Author.Tests.{ltb-true, eqb-true}
+use Rattle.spec.specs.Questions.{all, count, sum}
+use Rattle.spec.specs.Rule.{form32, Node, falseNode, testNode, impliesNode, sinceNode, weakPreviousNode, Table, nodeAt, lastNode, isFalse, isSince, isWeakPrevious, isPast, operands, mentions, isShared}
 use Rattle.spec.specs.Weaver.{sizeFrom, decideSize, updateSize, sharedSize, workSize, updatesSize, blockSize, isTestNode, sharingLines, blockLines}
 use Rattle.spec.proofs.BoolLaws.{and-both, decided, le-or-lt}
 use Rattle.spec.proofs.RuleLaws.{InOrder, both-lower, one-lower, length-table, rule-out}
 use Rattle.spec.proofs.MentionLaws.{sum-same, overOperands, mentions-sum, operands-sum, shared-not-past, past-unshared}
 use Rattle.spec.proofs.WeaverLaws.{pastsBelow, pasts-count, size-is, size-own, no-update}
 use Rattle.spec.proofs.SumLaws.{block-size-is}
-use Rattle.rule.proofs.NodeLaws.{node-at, kind-4, kind-5, since-kind, weak-kind, past-either}
-use Rattle.layout.specs.Layout.{tableIn, Shared, Sized}
+use Rattle.layout.specs.Layout.{Sized}
+use Rattle.rule.specs.Nodes.{tableIn, RulePasses, formIn}
 
 -- ---- a node's size from a table
 
@@ -43,18 +43,17 @@ from-lower t sizes k i (sinceNode l r) s o = refl
 from-lower t sizes k i (weakPreviousNode l) s o = refl
 
 -- by what it is
-pub own-at : (rule sizes : List ℕ) (k : ℕ) → checkRule form32 rule ≡ passed tt → SizedTo (tableIn rule) sizes k
-    → sizeFrom (λ j. getD sizes j 0) (nodeOf (nodeFields (getD rule k 0))) 0 ≡ sizeFrom (decideSize (tableIn rule)) (nodeAt (tableIn rule) k) k
+pub own-at : (rule sizes : List ℕ) (k : ℕ) → RulePasses rule → SizedTo (tableIn rule) sizes k
+    → sizeFrom (λ j. getD sizes j 0) (nodeAt (tableIn rule) k) 0 ≡ sizeFrom (decideSize (tableIn rule)) (nodeAt (tableIn rule) k) k
 own-at rule sizes k e s =
-    ap (λ x. sizeFrom (λ j. getD sizes j 0) x 0) (sym (node-at rule k))
-    ∙ from-lower (tableIn rule) sizes k 0 (nodeAt (tableIn rule) k) s (rule-out form32 rule e .ordered .lower k)
+    from-lower (tableIn rule) sizes k 0 (nodeAt (tableIn rule) k) s (rule-out formIn rule e .ordered .lower k)
 
 -- `shared` has the shared nodes
-pub size-at : (rule sizes : List ℕ) (k : ℕ) (shared : ℕ → Bool) → checkRule form32 rule ≡ passed tt → SizedTo (tableIn rule) sizes k
+pub size-at : (rule sizes : List ℕ) (k : ℕ) (shared : ℕ → Bool) → RulePasses rule → SizedTo (tableIn rule) sizes k
     → shared ≡ isShared (tableIn rule)
-    → cond (shared k) 2 (sizeFrom (λ j. getD sizes j 0) (nodeOf (nodeFields (getD rule k 0))) 0) ≡ decideSize (tableIn rule) k
+    → cond (shared k) 2 (sizeFrom (λ j. getD sizes j 0) (nodeAt (tableIn rule) k) 0) ≡ decideSize (tableIn rule) k
 size-at rule sizes k shared e s d =
-    ap₂ (λ b n. cond b 2 n) (ap (λ f. f k) d) (own-at rule sizes k e s) ∙ sym (size-is (tableIn rule) (rule-out form32 rule e .ordered) k)
+    ap₂ (λ b n. cond b 2 n) (ap (λ f. f k) d) (own-at rule sizes k e s) ∙ sym (size-is (tableIn rule) (rule-out formIn rule e .ordered) k)
 
 pub sized-next : (t : Table) (sizes : List ℕ) (k v : ℕ) → k < length sizes → v ≡ decideSize t k → SizedTo t sizes k
     → SizedTo t (set sizes k v) (k + 1)
@@ -236,34 +235,34 @@ lines-few t ordered =
 
 -- ---- an accepted rule
 
-module _ (rule : List ℕ) (accepted : checkRule form32 rule ≡ passed tt) where
+module _ (rule : List ℕ) (accepted : RulePasses rule) where
   pub nodes-few : length rule ≤ 32
   unfolding form32
-  nodes-few = rule-out form32 rule accepted .few-nodes
+  nodes-few = rule-out formIn rule accepted .few-nodes
 
   pub block-few : blockSize (tableIn rule) ≤ 481
   block-few = omega (
     arith,
     nodes-few,
-    length-table form32 rule,
-    block-size-is form32 rule accepted,
-    lines-few (tableIn rule) (rule-out form32 rule accepted .ordered),
+    length-table formIn rule,
+    block-size-is formIn rule accepted,
+    lines-few (tableIn rule) (rule-out formIn rule accepted .ordered),
   )
 
   pub counted-few : (n : ℕ) → n ≤ length rule → countedTo (tableIn rule) n ≤ 481
   counted-few n h =
-      let same = length-table form32 rule in
+      let same = length-table formIn rule in
       omega (arith, block-few, counted-within (tableIn rule) (length rule - n) n (omega arith))
 
   pub node-few : (k : ℕ) → k < length rule → decideSize (tableIn rule) k ≤ 481
   node-few k h =
-      let r = rule-out form32 rule accepted in
-      let inside : k < length (tableIn rule) = omega (arith, length-table form32 rule) in
+      let r = rule-out formIn rule accepted in
+      let inside : k < length (tableIn rule) = omega (arith, length-table formIn rule) in
       let few = decide-few (tableIn rule) (r .ordered) (r .mentioned) k inside in
       omega (arith, block-few)
 
   pub own-few : (k : ℕ) → k < length rule → sizeFrom (decideSize (tableIn rule)) (nodeAt (tableIn rule) k) k ≤ 962
-  own-few k h = go (nodeAt (tableIn rule) k) (rule-out form32 rule accepted .ordered .lower k)
+  own-few k h = go (nodeAt (tableIn rule) k) (rule-out formIn rule accepted .ordered .lower k)
     where
       go : (x : Node) → all (λ j. ltb j k) (operands x) ≡ true → sizeFrom (decideSize (tableIn rule)) x k ≤ 962
       go falseNode o = omega arith
@@ -290,43 +289,31 @@ module _ (rule sizes : List ℕ) (k : ℕ) (sized : Sized rule sizes) (inside : 
   lower-size j l = sized .1 j (omega arith)
 
   -- a since node: its operands' sizes, and the lines
-  pub since-lines : nodeFields (getD rule k 0) .kind ≡ 4
-      → (getD sizes (nodeFields (getD rule k 0) .right) 0 ≤ 481) × (getD sizes (nodeFields (getD rule k 0) .left) 0 ≤ 481)
-      × (getD sizes (nodeFields (getD rule k 0) .right) 0 + getD sizes (nodeFields (getD rule k 0) .left) 0 + 6 ≡ accounted)
+  pub since-lines : (left right : ℕ) → nodeAt table k ≡ sinceNode left right
+      → (getD sizes right 0 ≤ 481) × (getD sizes left 0 ≤ 481) × (getD sizes right 0 + getD sizes left 0 + 6 ≡ accounted)
   unfolding updateSize
-  since-lines h =
-      let f = nodeFields (getD rule k 0) in
-      let e : nodeAt table k ≡ sinceNode (f .left) (f .right) = node-at rule k ∙ kind-4 f h in
-      let (a, b) = both-lower k (f .left) (f .right) (rw e at (rule-out form32 rule (sized .0) .ordered .lower k)) in
-      let l = lower-size (f .left) a in
-      let r = lower-size (f .right) b in (
-        omega (arith, node-few rule (sized .0) (f .right) (omega arith)),
-        omega (arith, node-few rule (sized .0) (f .left) (omega arith)),
-        omega (arith, past-lines (sinceNode (f .left) (f .right)) e refl),
+  since-lines left right e =
+      let (a, b) = both-lower k left right (rw e at (rule-out formIn rule (sized .0) .ordered .lower k)) in
+      let l = lower-size left a in
+      let r = lower-size right b in (
+        omega (arith, node-few rule (sized .0) right (omega arith)),
+        omega (arith, node-few rule (sized .0) left (omega arith)),
+        omega (arith, past-lines (sinceNode left right) e refl),
       )
 
   -- a weak previous node, likewise
-  pub weak-lines : nodeFields (getD rule k 0) .kind ≡ 5
-      → (getD sizes (nodeFields (getD rule k 0) .left) 0 ≤ 481) × (getD sizes (nodeFields (getD rule k 0) .left) 0 + 4 ≡ accounted)
+  pub weak-lines : (left : ℕ) → nodeAt table k ≡ weakPreviousNode left → (getD sizes left 0 ≤ 481) × (getD sizes left 0 + 4 ≡ accounted)
   unfolding updateSize
-  weak-lines h =
-      let f = nodeFields (getD rule k 0) in
-      let e : nodeAt table k ≡ weakPreviousNode (f .left) = node-at rule k ∙ kind-5 f h in
-      let a = one-lower k (f .left) (rw e at (rule-out form32 rule (sized .0) .ordered .lower k)) in
-      let l = lower-size (f .left) a in
-      (omega (arith, node-few rule (sized .0) (f .left) (omega arith)), omega (arith, past-lines (weakPreviousNode (f .left)) e refl))
+  weak-lines left e =
+      let a = one-lower k left (rw e at (rule-out formIn rule (sized .0) .ordered .lower k)) in
+      let l = lower-size left a in
+      (omega (arith, node-few rule (sized .0) left (omega arith)), omega (arith, past-lines (weakPreviousNode left) e refl))
 
-  pub own-small : sizeFrom (λ j. getD sizes j 0) (nodeOf (nodeFields (getD rule k 0))) 0 < 65536
+  pub own-small : sizeFrom (λ j. getD sizes j 0) (nodeAt table k) 0 < 65536
   own-small = omega (arith, own-at rule sizes k (sized .0) lower-size, own-few rule (sized .0) k inside)
 
-  module _ (not-since : nodeFields (getD rule k 0) .kind ≡ 4 → ⊥) (not-weak : nodeFields (getD rule k 0) .kind ≡ 5 → ⊥) where
-    not-past : isPast (nodeAt table k) ≡ false
-    not-past =
-        let f = nodeFields (getD rule k 0) in
-        ap isPast (node-at rule k) ∙ past-either (nodeOf f)
-        ∙ ap₂ _||_ (since-kind f ∙ ne-eqb (f .kind) 4 not-since) (weak-kind f ∙ ne-eqb (f .kind) 5 not-weak)
-
-    pub shared-lines : isShared table k ≡ true → (n : ℕ) → n ≡ sizeFrom (λ j. getD sizes j 0) (nodeOf (nodeFields (getD rule k 0))) 0 → n + 3 ≡ accounted
+  module _ (not-past : isPast (nodeAt table k) ≡ false) where
+    pub shared-lines : isShared table k ≡ true → (n : ℕ) → n ≡ sizeFrom (λ j. getD sizes j 0) (nodeAt table k) 0 → n + 3 ≡ accounted
     unfolding workSize sharedSize
     shared-lines s n e = rw (s, not-past) (omega (arith, own-at rule sizes k (sized .0) lower-size))
 

@@ -1,4 +1,8 @@
 // Where woven lines go: how many lines a node's decision and a block take, and where each bare line starts.
+use rule::node::Node;
+use rule::node::read_node;
+use script::instruction::decode;
+use script::instruction::encode;
 use script::line::has_target;
 use script::line::is_present;
 use sets::has;
@@ -6,56 +10,64 @@ ghost use mathlib.Core.Path.{_≡_};
 ghost use mathlib.Core.Bool.{cond};
 ghost use Prim.Native.Nat.{_+_, _*_, _≤_, _<_};
 ghost use lib.ListN.{length, getD};
-ghost use Rattle.spec.specs.Questions.{passed};
-ghost use Rattle.spec.specs.Rule.{form32, Table, nodeFields, nodeOf, nodeAt, isPast, checkRule};
+ghost use Rattle.spec.specs.Rule.{Table, nodeAt, isPast};
 ghost use Rattle.spec.specs.Script.{instructionRead, isPresent, wordFor, bareCode, mostLines};
-ghost use Rattle.spec.specs.Weaver.{sizeFrom, workSize, blockSize, startOf, wovenCount, retarget, checkWeaving};
+ghost use Rattle.spec.specs.Weaver.{sizeFrom, workSize, blockSize, startOf, wovenCount, retarget};
 ghost use Rattle.sets.specs.Sets.{setOf};
-ghost use Rattle.layout.specs.Layout.{tableIn, Shared, Sized, Started};
+ghost use Rattle.rule.specs.Nodes.{tableIn, RulePasses, nodeRead, NodeSmall};
+ghost use Rattle.layout.specs.Layout.{Shared, Sized, Weavable, Started};
 
-// How many lines deciding the node with this word takes, by what it is, from the sizes for lower nodes.
-pub fn node_size(sizes: &[u16], word: u32) -> u16
-    requires { ⌜ (32 ≤ length (now sizes)) × (sizeFrom (λ j. getD (now sizes) j 0) (nodeOf (nodeFields word)) 0 < 65536) ⌝ }
-    ensures { λ r. ⌜ r ≡ sizeFrom (λ j. getD (now (sizes .entry)) j 0) (nodeOf (nodeFields word)) 0 ⌝ }
+// How many lines deciding a node takes, by what it is, from the sizes for lower nodes.
+pub fn node_size(sizes: &[u16], x: Node) -> u16
+    requires { ⌜ (64 ≤ length (now sizes)) × NodeSmall (nodeRead x) × (sizeFrom (λ j. getD (now sizes) j 0) (nodeRead x) 0 < 65536) ⌝ }
+    ensures { λ r. ⌜ r ≡ sizeFrom (λ j. getD (now (sizes .entry)) j 0) (nodeRead x) 0 ⌝ }
 {
-    let kind = word / 536870912 % 8;
-    match kind {
-        1 => 2,
-        2 => 2,
-        3 => sizes[(word / 64 % 32) as usize] + sizes[(word / 2 % 32) as usize],
-        4 => 2,
-        5 => 2,
-        6 => 2,
-        _ => 1,
+    match x {
+        Node::False => 1,
+        Node::Equal {
+            register: _,
+            constant: _,
+        } => 2,
+        Node::Below {
+            register: _,
+            constant: _,
+        } => 2,
+        Node::Implies { left, right } => sizes[left] + sizes[right],
+        Node::Since { left: _, right: _ } => 2,
+        Node::WeakPrevious { left: _ } => 2,
+        Node::EqualRegisters {
+            register: _,
+            other: _,
+        } => 2,
     }
 }
 
 // How many a mention of it takes, where it is node k and `shared` has the shared nodes: of one of those, 11 and a go.
-fn mention_size(sizes: &[u16], shared: u64, k: usize, word: u32) -> u16
-    requires { ⌜ (32 ≤ length (now sizes)) × (sizeFrom (λ j. getD (now sizes) j 0) (nodeOf (nodeFields word)) 0 < 65536) ⌝ }
-    ensures { λ r. ⌜ r ≡ cond (setOf shared k) 2 (sizeFrom (λ j. getD (now (sizes .entry)) j 0) (nodeOf (nodeFields word)) 0) ⌝ }
+fn mention_size(sizes: &[u16], shared: u64, k: usize, x: Node) -> u16
+    requires { ⌜ (64 ≤ length (now sizes)) × NodeSmall (nodeRead x) × (sizeFrom (λ j. getD (now sizes) j 0) (nodeRead x) 0 < 65536) ⌝ }
+    ensures { λ r. ⌜ r ≡ cond (setOf shared k) 2 (sizeFrom (λ j. getD (now (sizes .entry)) j 0) (nodeRead x) 0) ⌝ }
 {
     if has(shared, k) {
         2
     } else {
-        node_size(sizes, word)
+        node_size(sizes, x)
     }
 }
 
 fn fill_sizes(rule: &[u32], shared: u64, sizes: &mut [u16])
-    requires { ⌜ (checkRule form32 (now rule) ≡ passed tt) × Shared (now rule) shared × (32 ≤ length (now sizes)) ⌝ }
+    requires { ⌜ RulePasses (now rule) × Shared (now rule) shared × (64 ≤ length (now sizes)) ⌝ }
     ensures { λ r. ⌜ Sized (now (rule .entry)) (now (sizes .exit)) ⌝ }
 {
     let mut k = 0;
     while k < rule.len() {
-        sizes[k] = mention_size(sizes, shared, k, rule[k]);
+        sizes[k] = mention_size(sizes, shared, k, read_node(rule[k]));
         k += 1;
     }
 }
 
 // How many lines deciding a mention of each node of an accepted rule takes.
 pub fn measure_nodes(rule: &[u32], shared: u64, sizes: &mut [u16; 64])
-    requires { ⌜ (checkRule form32 (now rule) ≡ passed tt) × Shared (now rule) shared ⌝ }
+    requires { ⌜ RulePasses (now rule) × Shared (now rule) shared ⌝ }
     ensures { λ r. ⌜ Sized (now (rule .entry)) (now (sizes .exit)) ⌝ }
 {
     fill_sizes(rule, shared, sizes);
@@ -66,16 +78,13 @@ fn node_lines(rule: &[u32], sizes: &[u16; 64], shared: u64, k: usize) -> usize
     requires { ⌜ Sized (now rule) (now sizes) × Shared (now rule) shared × (k < length (now rule)) ⌝ }
     ensures { λ r. ⌜ r ≡ workSize (tableIn (now (rule .entry))) k + cond (isPast (nodeAt (tableIn (now (rule .entry))) k)) 1 0 ⌝ }
 {
-    let word = rule[k];
-    let kind = word / 536870912 % 8;
-    match kind {
-        4 => sizes[(word / 2 % 32) as usize] as usize
-            + sizes[(word / 64 % 32) as usize] as usize
-            + 6,
-        5 => sizes[(word / 64 % 32) as usize] as usize + 4,
+    let x = read_node(rule[k]);
+    match x {
+        Node::Since { left, right } => sizes[right] as usize + sizes[left] as usize + 6,
+        Node::WeakPrevious { left } => sizes[left] as usize + 4,
         _ => {
             if has(shared, k) {
-                node_size(sizes, word) as usize + 3
+                node_size(sizes, x) as usize + 3
             } else {
                 0
             }
@@ -101,7 +110,7 @@ pub fn block_size(rule: &[u32], sizes: &[u16; 64], shared: u64) -> usize
 fn line_size(word: u32, size: usize) -> usize
     ensures { λ r. ⌜ r ≡ cond (isPresent (instructionRead word)) size 1 ⌝ }
 {
-    if is_present(word) { size } else { 1 }
+    if is_present(decode(word)) { size } else { 1 }
 }
 
 // Where bare line `to` starts, from where line `from` does; a block has `size` lines.
@@ -127,7 +136,7 @@ pub fn count_lines(bare: &[u32], size: usize) -> usize
 }
 
 fn fill_starts(rule: &[u32], bare: &[u32], size: usize, starts: &mut [u16])
-    requires { ⌜ (checkWeaving form32 (now rule) (now bare) ≡ passed tt) × (size ≡ blockSize (tableIn (now rule))) × (64 ≤ length (now starts)) ⌝ }
+    requires { ⌜ Weavable (now rule) (now bare) × (size ≡ blockSize (tableIn (now rule))) × (64 ≤ length (now starts)) ⌝ }
     ensures { λ r. ⌜ Started (now (rule .entry)) (now (bare .entry)) (now (starts .exit)) size ⌝ }
 {
     let mut n = 0;
@@ -143,7 +152,7 @@ fn fill_starts(rule: &[u32], bare: &[u32], size: usize, starts: &mut [u16])
 
 // Where every 16th bare line starts. The rule is not looked at: it says what a block is.
 pub fn mark_starts(rule: &[u32], bare: &[u32], size: usize, starts: &mut [u16; 64])
-    requires { ⌜ (checkWeaving form32 (now rule) (now bare) ≡ passed tt) × (size ≡ blockSize (tableIn (now rule))) ⌝ }
+    requires { ⌜ Weavable (now rule) (now bare) × (size ≡ blockSize (tableIn (now rule))) ⌝ }
     ensures { λ r. ⌜ Started (now (rule .entry)) (now (bare .entry)) (now (starts .exit)) size ⌝ }
 {
     fill_starts(rule, bare, size, starts);
@@ -163,11 +172,15 @@ pub fn moved_word(rule: &[u32], bare: &[u32], starts: &[u16; 64], size: usize, l
     requires { ⌜ Started (now rule) (now bare) (now starts) size × (l < length (now bare)) ⌝ }
     ensures { λ r. ⌜ r ≡ wordFor (retarget (startOf (tableIn (now (rule .entry))) (bareCode (now (bare .entry)))) (instructionRead (getD (now (bare .entry)) l 0))) ⌝ }
 {
-    let word = bare[l];
-    if has_target(word) {
-        let target = start_of(rule, bare, starts, size, (word % 1024) as usize);
-        word / 1024 * 1024 + target as u32
+    let x = decode(bare[l]);
+    if has_target(x) {
+        encode(
+            x.opcode,
+            x.r,
+            x.c,
+            start_of(rule, bare, starts, size, x.target),
+        )
     } else {
-        word
+        bare[l]
     }
 }

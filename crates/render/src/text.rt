@@ -1,6 +1,7 @@
 // The text of a listing, written into a lent output.
 use print::add_bytes;
 use print::add_number;
+use script::instruction::decode;
 ghost use Prim.Native.Nat.{_+_, _*_, _≤_, _<_};
 ghost use lib.ListN.{length};
 ghost use Rattle.spec.specs.Questions.{passed};
@@ -12,11 +13,12 @@ fn add_line(l: usize, word: u32, at: usize, out: &mut [u8]) -> usize
     requires { ⌜ (l < 1024) × (at + 30 ≤ length (now out)) ⌝ }
     ensures { λ r. ⌜ Added (lineText l word) at r (now (out .entry)) (now (out .exit)) ⌝ }
 {
+    let x = decode(word);
     let opcode_at = add_number(l, b' ', at, out);
-    let r_at = add_number((word / 268435456 % 16) as usize, b' ', opcode_at, out);
-    let c_at = add_number((word / 16777216 % 16) as usize, b' ', r_at, out);
-    let target_at = add_number((word / 1024 % 16384) as usize, b' ', c_at, out);
-    add_number((word % 1024) as usize, b'\n', target_at, out)
+    let r_at = add_number(x.opcode as usize, b' ', opcode_at, out);
+    let c_at = add_number(x.r, b' ', r_at, out);
+    let target_at = add_number(x.c, b' ', c_at, out);
+    add_number(x.target, b'\n', target_at, out)
 }
 
 // The first n lines of a script of eight words a line.

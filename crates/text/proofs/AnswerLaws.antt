@@ -5,8 +5,8 @@
 --     Copied, copied-start, copied-length, copied-next, copied-end      words copied to the start of the output
 -- Assumes nothing.
 use mathlib.Core.Path.{_≡_, refl, sym, subst, ap, ap₂, _∙_}
-use mathlib.Core.Logic.{_⊎_, inl, inr}
-use mathlib.Core.List.{List, [], _∷_, _++_}
+use mathlib.Core.Logic.{inl, inr}
+use mathlib.Core.List.{List, _++_}
 use Prim.Native.Nat.{ℕ, suc, _+_, _-_, _≤_, _<_}
 use native.Mathlib.Numerals.{add-one}
 use native.Mathlib.Omega.{arith}
@@ -20,17 +20,17 @@ use Rattle.spec.proofs.StoredLaws.{good32}
 use Rattle.grammar.specs.Typed.{opened}
 use Rattle.grammar.specs.Scan.{question16}
 use Rattle.grammar.specs.Reading.{formulaOf}
-use Rattle.grammar.specs.Nodes.{size, ruleWords}
+use Rattle.grammar.specs.Nodes.{size}
 use Rattle.grammar.specs.TextPromise.{TableFor}
 use Rattle.grammar.specs.Texting.{question17, writing, texting, countOf, outputOf}
 use Rattle.grammar.proofs.TableLaws.{length-words}
 use Rattle.grammar.proofs.TextLaws.{writing-in, writing-many, writing-few, count-refused, count-passed, text-promise32}
-use Rattle.text.specs.Stacks.{Holds}
 use Rattle.text.specs.Progress.{TableOf}
 use Rattle.rule.specs.Answers.{countedOf}
 use Rattle.rule.specs.declared.answer.Counted.{Counted}
 use Rattle.rule.specs.declared.answer.Counted.the-variants.{Count, Refused}
 use Rattle.text.specs.Answers.{Tells, Reads}
+use Rattle.rule.specs.Nodes.{formIn}
 
 -- ---- words copied
 
@@ -71,7 +71,7 @@ module _ (table before : List ℕ) (n : ℕ) (out : List ℕ) (i : ℕ) (x : Cop
 
 module _ (text before : List ℕ) where
   abbrev answer : Answer (List ℕ)
-  answer = texting form32 (length before) text
+  answer = texting formIn (length before) text
 
   refuses : (q i : ℕ) → answer ≡ refused q i → Reads text before before (Refused q i)
   refuses q i e = record { answer = sym (ap countOf e); output = sym (ap (λ a. outputOf a before) e) }
@@ -89,12 +89,12 @@ module _ (text before : List ℕ) where
       abbrev nodes : ℕ
       nodes = size (opened (formulaOf text))
 
-      asked : answer ≡ writing form32 (length before) (opened (formulaOf text))
+      asked : answer ≡ writing formIn (length before) (opened (formulaOf text))
       unfolding texting
       asked = then-passed (question16 text) _ q₁₆ ∙ then-passed (question17 text) _ q₁₇
 
       counted : nodes ≤ 32 → n ≡ nodes
-      counted h = let a = t .few h .count in let b = length-words form32 good32 (opened (formulaOf text)) in omega arith
+      counted h = let a = t .few h .count in let b = length-words formIn good32 (opened (formulaOf text)) in omega arith
 
       few : n ≤ 32 → nodes ≤ 32
       few h = elim (le-or-lt nodes 32) [ inl k ↦ k | inr k ↦ let z = t .many k in absurd (omega arith) ]
@@ -106,14 +106,14 @@ module _ (text before : List ℕ) where
       unfolding form32
       reads-many h =
           let k : 32 < nodes = elim (le-or-lt nodes 32) [ inl k ↦ let z = counted k in absurd (omega arith) | inr k ↦ k ] in
-          refuses 18 0 (asked ∙ writing-many form32 good32 (length before) (opened (formulaOf text)) k)
+          refuses 18 0 (asked ∙ writing-many formIn good32 (length before) (opened (formulaOf text)) k)
 
       pub reads-short : n ≤ 32 → length before < n → Reads text before before (Refused 13 0)
       unfolding form32
       reads-short h l =
           let k = few h in
           let z = counted k in
-          refuses 13 0 (asked ∙ writing-few form32 good32 (length before) (opened (formulaOf text)) k (omega arith))
+          refuses 13 0 (asked ∙ writing-few formIn good32 (length before) (opened (formulaOf text)) k (omega arith))
 
       pub reads-written : n ≤ 32 → n ≤ length before → Reads text before (take n table ++ drop n before) (Count n)
       unfolding form32
@@ -121,7 +121,7 @@ module _ (text before : List ℕ) where
           let k = few h in
           let z = counted k in
           let w = t .few k in
-          let e = asked ∙ writing-in form32 good32 (length before) (opened (formulaOf text)) k (omega arith) in
+          let e = asked ∙ writing-in formIn good32 (length before) (opened (formulaOf text)) k (omega arith) in
           record {
             answer = ap passed (w .count) ∙ sym (ap countOf e);
             output = ap₂ (λ ws m. ws ++ drop m before) (w .words) (w .count) ∙ sym (ap (λ a. outputOf a before) e);
@@ -131,7 +131,7 @@ module _ (text before : List ℕ) where
 
 module _ (text before after : List ℕ) (r : Counted) (x : Reads text before after r) where
   abbrev given : Answer (List ℕ)
-  given = texting form32 (length before) text
+  given = texting formIn (length before) text
 
   no : (q i : ℕ) → countedOf r ≡ refused q i → given ≡ refused q i
   no q i e = count-refused given q i (sym (x .answer) ∙ e)
@@ -142,7 +142,7 @@ module _ (text before after : List ℕ) (r : Counted) (x : Reads text before aft
         let (ws, g, l) = count-passed given n (sym (x .answer) ∙ e) in
         let (φ, spelled, t, few) = text-promise32 .table text (length before) ws g in
         let o = x .output ∙ ap (λ a. outputOf a before) g in
-        (φ, spelled, subst (TableFor form32 φ) (sym (ap₂ take l o ∙ take-append-seam ws _)) t);
+        (φ, spelled, subst (TableFor formIn φ) (sym (ap₂ take l o ∙ take-append-seam ws _)) t);
     stuck = λ i e. text-promise32 .stuck text (length before) i (no 16 i e);
     out-of-range = λ i e. text-promise32 .out-of-range text (length before) i (no 17 i e);
   }

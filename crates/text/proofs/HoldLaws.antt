@@ -1,22 +1,22 @@
 -- The words at the start of a table (`specs/Stacks.antt`).
 --     length-held, holds-here, holds-set, holds-as      n words, and one more
 --     holds-after                what was put behind words that the table holds
---     holds-false, holds-equal, holds-below, holds-implies, holds-since, holds-weak      the word of a node of each kind
+--     holds-node, holds-implies, holds-since, holds-weak      one more node
 --     count-put, count-implies, count-since, count-weak, count-not      how many there are then
 --     holds-not                  false, and implies over it
 -- Assumes nothing.
-use mathlib.Core.Path.{_≡_, refl, sym, subst, ap, ap₂, _∙_}
+use mathlib.Core.Path.{_≡_, refl, sym, subst, ap, _∙_}
 use mathlib.Core.List.{List, [], _∷_, _++_}
-use Prim.Native.Nat.{ℕ, suc, _+_, _-_, _*_, _≤_, _<_}
+use Prim.Native.Nat.{ℕ, _+_, _-_, _≤_, _<_}
 use native.Mathlib.Numerals.{add-one}
 use native.Mathlib.Omega.{arith}
 use lib.ListN.{length, take, set, length-append, length-set}
 use lib.Seq.{take-suc-set, length-take-le}
-use Rattle.spec.specs.Logic.{equal, below}
-use Rattle.spec.specs.Rule.{form32, Node, falseNode, testNode, impliesNode, sinceNode, weakPreviousNode, fieldsOfNode}
+use Rattle.spec.specs.Rule.{form32, Node, falseNode, impliesNode, sinceNode, weakPreviousNode, fieldsOfNode}
 use Rattle.grammar.specs.Nodes.{wordOfNode}
 use Rattle.text.specs.Building.{lastOf, put, putImplies, putSince, putWeak, putNot}
 use Rattle.text.specs.Stacks.{Holds}
+use Rattle.rule.specs.Nodes.{formIn, wordOut}
 use Rattle.text.proofs.BuildLaws.{put-length, implies-length, since-length, weak-length, not-length}
 
 pub length-held : (n : ℕ) (table : List ℕ) → n ≤ 32 → length table ≡ 32 → length (take n table) ≡ n
@@ -43,42 +43,30 @@ holds-as {table} {n} e h = subst (Holds table n) e h
 pub holds-after : (g : List ℕ → List ℕ) {middle after : List ℕ} {n r : ℕ} {ws : List ℕ} → Holds middle n ws → Holds after r (g (take n middle)) → Holds after r (g ws)
 holds-after g a b = holds-as (ap g (a .words)) b
 
--- ---- the word of a node
+-- ---- one more node
 
 -- behind n words, the word of the node x
-holds-node : (table after : List ℕ) (n r w : ℕ) (x : Node) → w ≡ wordOfNode form32 x → Holds after r (take n table ++ w ∷ []) → Holds after r (put form32 x (take n table))
-unfolding put
-holds-node table after n r w x e h = holds-as (ap (λ v. take n table ++ v ∷ []) e) h
-
-pub holds-false : (table after : List ℕ) (n r : ℕ) → Holds after r (take n table ++ 0 ∷ []) → Holds after r (put form32 falseNode (take n table))
-unfolding wordOfNode form32 fieldsOfNode
-holds-false table after n r h = holds-node table after n r 0 falseNode refl h
-
-module _ (table after : List ℕ) (n r w i c : ℕ) where
-  pub holds-equal : w ≡ 536870912 + (i * 33554432 + c * 2048) → Holds after r (take n table ++ w ∷ []) → Holds after r (put form32 (testNode (equal i c)) (take n table))
-  unfolding wordOfNode form32 fieldsOfNode
-  holds-equal e h = holds-node table after n r w (testNode (equal i c)) (omega arith) h
-
-  pub holds-below : w ≡ 1073741824 + (i * 33554432 + c * 2048) → Holds after r (take n table ++ w ∷ []) → Holds after r (put form32 (testNode (below i c)) (take n table))
-  unfolding wordOfNode form32 fieldsOfNode
-  holds-below e h = holds-node table after n r w (testNode (below i c)) (omega arith) h
+pub holds-node : (table : List ℕ) (n w : ℕ) (x : Node) → n < 32 → length table ≡ 32 → w ≡ wordOut (fieldsOfNode x)
+    → Holds (set table n w) (n + 1) (put formIn x (take n table))
+unfolding put wordOfNode form32
+holds-node table n w x h long e = holds-as (ap (λ v. take n table ++ v ∷ []) e) (holds-set table n w h long)
 
 -- over the last of n nodes
-module _ (table after : List ℕ) (n r w l right : ℕ) (few : n < 32) (long : length table ≡ 32) (e : right ≡ n - 1) (h : Holds after r (take n table ++ w ∷ [])) where
+module _ (table after : List ℕ) (n r l right : ℕ) (few : n < 32) (long : length table ≡ 32) (e : right ≡ n - 1) where
   last : right ≡ lastOf (take n table)
   last = let a = length-held n table (omega arith) long in omega arith
 
-  pub holds-implies : w ≡ 3 * 536870912 + l * 64 + right * 2 → Holds after r (putImplies form32 l (take n table))
-  unfolding wordOfNode form32 fieldsOfNode putImplies
-  holds-implies f = let z = last in holds-node table after n r w (impliesNode l (lastOf (take n table))) (omega arith) h
+  pub holds-implies : Holds after r (put formIn (impliesNode l right) (take n table)) → Holds after r (putImplies formIn l (take n table))
+  unfolding putImplies
+  holds-implies h = holds-as (ap (λ m. put formIn (impliesNode l m) (take n table)) last) h
 
-  pub holds-since : w ≡ 4 * 536870912 + l * 64 + right * 2 → Holds after r (putSince form32 l (take n table))
-  unfolding wordOfNode form32 fieldsOfNode putSince
-  holds-since f = let z = last in holds-node table after n r w (sinceNode l (lastOf (take n table))) (omega arith) h
+  pub holds-since : Holds after r (put formIn (sinceNode l right) (take n table)) → Holds after r (putSince formIn l (take n table))
+  unfolding putSince
+  holds-since h = holds-as (ap (λ m. put formIn (sinceNode l m) (take n table)) last) h
 
-  pub holds-weak : w ≡ 5 * 536870912 + right * 64 + 0 * 2 → Holds after r (putWeak form32 (take n table))
-  unfolding wordOfNode form32 fieldsOfNode putWeak
-  holds-weak f = let z = last in holds-node table after n r w (weakPreviousNode (lastOf (take n table))) (omega arith) h
+  pub holds-weak : Holds after r (put formIn (weakPreviousNode right) (take n table)) → Holds after r (putWeak formIn (take n table))
+  unfolding putWeak
+  holds-weak h = holds-as (ap (λ m. put formIn (weakPreviousNode m) (take n table)) last) h
 
 -- ---- how many there are
 
@@ -86,26 +74,26 @@ module _ (table after : List ℕ) (n r : ℕ) (few : n ≤ 32) (long : length ta
   held : length (take n table) ≡ n
   held = length-held n table few long
 
-  pub count-put : (x : Node) → Holds after r (put form32 x (take n table)) → r ≡ n + 1
-  count-put x h = let a = h .count in let b = put-length form32 x (take n table) in let c = held in omega arith
+  pub count-put : (x : Node) → Holds after r (put formIn x (take n table)) → r ≡ n + 1
+  count-put x h = let a = h .count in let b = put-length formIn x (take n table) in let c = held in omega arith
 
-  pub count-implies : (l : ℕ) → Holds after r (putImplies form32 l (take n table)) → r ≡ n + 1
-  count-implies l h = let a = h .count in let b = implies-length form32 l (take n table) in let c = held in omega arith
+  pub count-implies : (l : ℕ) → Holds after r (putImplies formIn l (take n table)) → r ≡ n + 1
+  count-implies l h = let a = h .count in let b = implies-length formIn l (take n table) in let c = held in omega arith
 
-  pub count-since : (l : ℕ) → Holds after r (putSince form32 l (take n table)) → r ≡ n + 1
-  count-since l h = let a = h .count in let b = since-length form32 l (take n table) in let c = held in omega arith
+  pub count-since : (l : ℕ) → Holds after r (putSince formIn l (take n table)) → r ≡ n + 1
+  count-since l h = let a = h .count in let b = since-length formIn l (take n table) in let c = held in omega arith
 
-  pub count-weak : Holds after r (putWeak form32 (take n table)) → r ≡ n + 1
-  count-weak h = let a = h .count in let b = weak-length form32 (take n table) in let c = held in omega arith
+  pub count-weak : Holds after r (putWeak formIn (take n table)) → r ≡ n + 1
+  count-weak h = let a = h .count in let b = weak-length formIn (take n table) in let c = held in omega arith
 
-  pub count-not : Holds after r (putNot form32 (take n table)) → r ≡ n + 2
-  count-not h = let a = h .count in let b = not-length form32 (take n table) in let c = held in omega arith
+  pub count-not : Holds after r (putNot formIn (take n table)) → r ≡ n + 2
+  count-not h = let a = h .count in let b = not-length formIn (take n table) in let c = held in omega arith
 
 -- ---- not
 
-pub holds-not : (table middle after : List ℕ) (n a r left : ℕ) → n ≤ 32 → length table ≡ 32 → left ≡ n - 1 → Holds middle a (put form32 falseNode (take n table))
-    → Holds after r (putImplies form32 left (take a middle)) → Holds after r (putNot form32 (take n table))
+pub holds-not : (table middle after : List ℕ) (n a r left : ℕ) → n ≤ 32 → length table ≡ 32 → left ≡ n - 1 → Holds middle a (put formIn falseNode (take n table))
+    → Holds after r (putImplies formIn left (take a middle)) → Holds after r (putNot formIn (take n table))
 unfolding putNot
 holds-not table middle after n a r left few long e h k =
     let z : left ≡ lastOf (take n table) = let y = length-held n table few long in omega arith in
-    holds-as (ap (λ l. putImplies form32 l (put form32 falseNode (take n table))) z) (holds-after (putImplies form32 left) h k)
+    holds-as (ap (λ l. putImplies formIn l (put formIn falseNode (take n table))) z) (holds-after (putImplies formIn left) h k)

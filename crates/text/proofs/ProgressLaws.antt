@@ -10,12 +10,12 @@ use mathlib.Core.List.{List, [], _∷_}
 use Prim.Native.Nat.{ℕ, suc, _+_, _-_, _≤_, _<_}
 use native.Mathlib.Omega.{arith}
 use lib.ListN.{length, take}
-use Rattle.spec.specs.Rule.{form32, falseNode, testNode}
+use Rattle.spec.specs.Rule.{falseNode, testNode}
 use Rattle.grammar.specs.Typed as typed
 use Rattle.grammar.specs.Typed.{testOf}
-use Rattle.grammar.specs.Grammar.{constantWord, prefixWord, operatorWord, Token, word, register, number, sign, strength}
-use Rattle.grammar.specs.Reading.{Waiting, awaiting, withLeft, rank, Built, Reading, unwound, waits, read, readAll}
-use Rattle.text.specs.Tokens.{prefixOf, operatorOf, tokensIn}
+use Rattle.grammar.specs.Grammar.{constantWord, Token, word, register, number, strength}
+use Rattle.grammar.specs.Reading.{awaiting, withLeft, rank, unwound, waits, read, readAll}
+use Rattle.text.specs.Tokens.{prefixOf, operatorOf}
 use Rattle.text.specs.Building.{put, putConstant, words, beginCost, finishCost, tokenCost, cost}
 use Rattle.text.specs.Stacks.{waitingOf, stackOf, builtOf, owed, comparisonOf, Holds, Fitting}
 use Rattle.text.specs.Progress.{Builds, progressAt, progressWith, readingWith, Ready, Takes}
@@ -24,6 +24,7 @@ use Rattle.text.specs.declared.token.Operator.{Operator}
 use Rattle.text.specs.declared.token.Token as token
 use Rattle.text.specs.declared.token.Token.the-variants as variant
 use Rattle.text.specs.declared.write.Progress.{Progress}
+use Rattle.rule.specs.Nodes.{formIn}
 use Rattle.text.proofs.BuildLaws.{put-length, true-length}
 use Rattle.text.proofs.HoldLaws.{length-held}
 
@@ -79,9 +80,9 @@ module _ (stack table : List ℕ) (p : Progress) (depth : ℕ) where
 
   -- ---- an operand is put
 
-  constant-length : (v : Bool) (ws : List ℕ) → length (putConstant form32 v ws) ≡ length ws + tokenCost (word (constantWord v))
-  constant-length true ws = true-length form32 ws
-  constant-length false ws = put-length form32 falseNode ws
+  constant-length : (v : Bool) (ws : List ℕ) → length (putConstant formIn v ws) ≡ length ws + tokenCost (word (constantWord v))
+  constant-length true ws = true-length formIn ws
+  constant-length false ws = put-length formIn falseNode ws
 
   -- the words are there, and as many as the token costs
   put-fits : (t : Token) (table′ : List ℕ) (n : ℕ) (ws : List ℕ) → Fitting stack top table count → count + owed (stackOf stack top) + cost (t ∷ []) ≤ 32
@@ -96,7 +97,7 @@ module _ (stack table : List ℕ) (p : Progress) (depth : ℕ) where
   unfolding cost
   constant-room v r = (let k = r .room in omega arith, r .fits .table-long)
 
-  pub taken-constant : (v : Bool) (table′ : List ℕ) (n : ℕ) → Ready stack table p (variant.Constant v) → Holds table′ n (putConstant form32 v (take count table))
+  pub taken-constant : (v : Bool) (table′ : List ℕ) (n : ℕ) → Ready stack table p (variant.Constant v) → Holds table′ n (putConstant formIn v (take count table))
       → Takes stack table p depth (variant.Constant v) stack table′ (progressAt p top n)
   unfolding readAll read
   taken-constant v table′ n r h = record {
@@ -109,12 +110,12 @@ module _ (stack table : List ℕ) (p : Progress) (depth : ℕ) where
   number-room c r = (let k = r .room in omega arith, r .fits .table-long, r .register, r .in-range .0)
 
   pub taken-number : (c : ℕ) (table′ : List ℕ) (n : ℕ) → Ready stack table p (variant.Number c)
-      → Holds table′ n (put form32 (testNode (testOf (comparisonOf (p .below)) (p .register) c)) (take count table))
+      → Holds table′ n (put formIn (testNode (testOf (comparisonOf (p .below)) (p .register) c)) (take count table))
       → Takes stack table p depth (variant.Number c) stack table′ (progressAt p top n)
   unfolding readAll read
   taken-number c table′ n r h = record {
     reading = ap (λ ws. readingWith p depth (record { stack = stackOf stack top; value = ws })) (h .words);
-    fits = put-fits (number c) table′ n _ (r .fits) (r .room) (put-length form32 (testNode (testOf (comparisonOf (p .below)) (p .register) c)) (take count table)) h;
+    fits = put-fits (number c) table′ n _ (r .fits) (r .room) (put-length formIn (testNode (testOf (comparisonOf (p .below)) (p .register) c)) (take count table)) h;
   }
 
   -- ---- a word waits
@@ -125,11 +126,11 @@ module _ (stack table : List ℕ) (p : Progress) (depth : ℕ) where
     prefix-room = (r .fits, (let k = r .room in let a = ap beginCost e in let b = ap finishCost e in omega arith))
 
     pub taken-prefix : (stack′ : List ℕ) (top′ : ℕ) (table′ : List ℕ) (n : ℕ)
-        → Builds stack′ top′ table′ n (waits (words form32) depth (waitingOf m) (builtOf stack top table count)) → Takes stack table p depth (variant.Prefix w) stack′ table′ (progressAt p top′ n)
+        → Builds stack′ top′ table′ n (waits (words formIn) depth (waitingOf m) (builtOf stack top table count)) → Takes stack table p depth (variant.Prefix w) stack′ table′ (progressAt p top′ n)
     unfolding readAll read
     taken-prefix stack′ top′ table′ n b = record {
       reading = ap (readingWith p depth)
-          (b .built ∙ ap (λ v. waits (words form32) depth v (builtOf stack top table count)) e);
+          (b .built ∙ ap (λ v. waits (words formIn) depth v (builtOf stack top table count)) e);
       fits = b .fits;
     }
 
@@ -143,11 +144,11 @@ module _ (stack table : List ℕ) (p : Progress) (depth : ℕ) where
     )
 
     pub taken-operator : (stack′ : List ℕ) (top′ : ℕ) (table′ : List ℕ) (n : ℕ)
-        → Builds stack′ top′ table′ n (waits (words form32) depth (waitingOf m) (unwound (words form32) (rank depth level) (stackOf stack top) (take count table)))
+        → Builds stack′ top′ table′ n (waits (words formIn) depth (waitingOf m) (unwound (words formIn) (rank depth level) (stackOf stack top) (take count table)))
         → Takes stack table p depth (variant.Operator w) stack′ table′ (progressAt p top′ n)
     unfolding readAll read
     taken-operator stack′ top′ table′ n b = record {
       reading = ap (readingWith p depth)
-          (b .built ∙ ap₂ (λ v k. waits (words form32) depth v (unwound (words form32) (rank depth k) (stackOf stack top) (take count table))) e l);
+          (b .built ∙ ap₂ (λ v k. waits (words formIn) depth v (unwound (words formIn) (rank depth k) (stackOf stack top) (take count table))) e l);
       fits = b .fits;
     }

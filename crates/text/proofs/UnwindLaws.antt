@@ -5,21 +5,21 @@
 --     Unwinding, unwinding-start, unwinding-room, unwinding-next, unwinding-stop      the loop that ends words
 -- Assumes nothing.
 use mathlib.Core.Path.{_≡_, refl, sym, subst, ap, _∙_}
-use mathlib.Core.Logic.{_≢_, _⊎_, inl, inr}
-use mathlib.Core.Bool.{Bool, true, false}
+use mathlib.Core.Logic.{_≢_, inl, inr}
+use mathlib.Core.Bool.{true, false}
 use mathlib.Core.List.{List, [], _∷_}
 use Prim.Native.Nat.{ℕ, zero, suc, _+_, _-_, _*_, _≤_, _<_}
 use native.Mathlib.Omega.{arith}
 use lib.ListN.{length, getD, take}
 use lib.Dec.{leb}
 use borrow.Author.Tests.{leb-true, leb-false, le-leb, lt-leb}
-use Rattle.spec.specs.Rule.{form32}
 use Rattle.spec.proofs.BoolLaws.{clash, le-or-lt}
-use Rattle.grammar.specs.Reading.{Waiting, awaiting, withLeft, levelOf, rank, Entry, Built, unwound}
+use Rattle.grammar.specs.Reading.{Waiting, awaiting, withLeft, levelOf, rank, Entry, unwound}
 use Rattle.grammar.proofs.SpellLaws.{right-small}
 use Rattle.grammar.proofs.ReadingLaws.{unwound-ends, unwound-stays, Under}
 use Rattle.text.specs.Building.{finishes, finishCost, words}
-use Rattle.text.specs.Stacks.{waitingOf, entryOf, entryAt, stackOf, builtOf, owed, LeftSmall, Holds, Fitting, endsTop, Unwinds}
+use Rattle.text.specs.Stacks.{waitingOf, entryAt, stackOf, owed, LeftSmall, Holds, Fitting, endsTop, Unwinds}
+use Rattle.rule.specs.Nodes.{formIn}
 use Rattle.text.proofs.BuildLaws.{finishes-length}
 use Rattle.text.proofs.StackLaws.{stack-length, entries-owed}
 use Rattle.text.proofs.HoldLaws.{length-held}
@@ -91,7 +91,7 @@ module _ (st : List ℕ) (n depth level : ℕ) (some : n ≢ 0) (small : level �
 -- ---- the loop
 
 pub record Unwinding (stack : List ℕ) (top : ℕ) (table : List ℕ) (count limit t : ℕ) (now : List ℕ) (n : ℕ) : Type 0 where
-  pub same : unwound (words form32) limit (stackOf stack t) (take n now) ≡ unwound (words form32) limit (stackOf stack top) (take count table)
+  pub same : unwound (words formIn) limit (stackOf stack t) (take n now) ≡ unwound (words formIn) limit (stackOf stack top) (take count table)
   pub fits : Fitting stack t now n
 
 pub unwinding-start : (stack : List ℕ) (top : ℕ) (table : List ℕ) (count limit : ℕ) → Fitting stack top table count → Unwinding stack top table count limit top table count
@@ -99,9 +99,9 @@ unwinding-start stack top table count limit f = record { same = refl; fits = f }
 
 module _ (stack : List ℕ) (top : ℕ) (table : List ℕ) (count limit t : ℕ) (now : List ℕ) (n : ℕ) (x : Unwinding stack top table count limit t now n) where
   pub unwinding-stop : endsTop limit (stackOf stack t) ≡ false → Unwinds stack top table count limit t now n
-  unwinding-stop e = record { built = sym (unwound-stays (words form32) limit (stackOf stack t) (take n now) (under (stackOf stack t) e)) ∙ x .same; fits = x .fits }
+  unwinding-stop e = record { built = sym (unwound-stays (words formIn) limit (stackOf stack t) (take n now) (under (stackOf stack t) e)) ∙ x .same; fits = x .fits }
     where
-      under : (s : List (Entry ℕ)) → endsTop limit s ≡ false → Under (words form32) limit s
+      under : (s : List (Entry ℕ)) → endsTop limit s ≡ false → Under (words formIn) limit s
       under [] e = tt
       under (y ∷ s) e = leb-false limit (y .tight) e
 
@@ -125,7 +125,7 @@ module _ (stack : List ℕ) (top : ℕ) (table : List ℕ) (count limit t : ℕ)
         let o = ap owed here in
         (omega arith, f .table-long, subst LeftSmall here (f .left-small) .0)
 
-    pub unwinding-next : (after : List ℕ) (m : ℕ) → Holds after m (finishes form32 (last .waiting) (last .noted) (take n now))
+    pub unwinding-next : (after : List ℕ) (m : ℕ) → Holds after m (finishes formIn (last .waiting) (last .noted) (take n now))
         → Unwinding stack top table count limit (t - 1) after m
     unfolding owed LeftSmall
     unwinding-next after m h =
@@ -134,13 +134,13 @@ module _ (stack : List ℕ) (top : ℕ) (table : List ℕ) (count limit t : ℕ)
         let o = ap owed here in
         let k = f .room in
         let a = h .count in
-        let b = finishes-length form32 (last .waiting) (last .noted) (take n now) in
+        let b = finishes-length formIn (last .waiting) (last .noted) (take n now) in
         let c = length-held n now (omega arith) l in
         let g : leb limit (last .tight) ≡ true = sym (ap (endsTop limit) here) ∙ e in
         record {
-          same = ap (unwound (words form32) limit (stackOf stack (t - 1))) (h .words)
-              ∙ sym (ap (λ z. unwound (words form32) limit z (take n now)) here
-              ∙ unwound-ends (words form32) limit last (stackOf stack (t - 1)) (take n now) (leb-true limit (last .tight) g))
+          same = ap (unwound (words formIn) limit (stackOf stack (t - 1))) (h .words)
+              ∙ sym (ap (λ z. unwound (words formIn) limit z (take n now)) here
+              ∙ unwound-ends (words formIn) limit last (stackOf stack (t - 1)) (take n now) (leb-true limit (last .tight) g))
               ∙ x .same;
           fits = record { stack-long = f .stack-long; table-long = h .long; room = omega arith; left-small = subst LeftSmall here (f .left-small) .1 };
         }

@@ -3,16 +3,16 @@
 --     waits-builds               what waiting builds
 --     join-room, join-builds     what joining builds
 -- Assumes nothing.
-use mathlib.Core.Path.{_≡_, refl, sym, subst, ap, ap₂, _∙_}
+use mathlib.Core.Path.{_≡_, sym, subst, ap, ap₂, _∙_}
 use mathlib.Core.List.{List, _∷_}
 use Prim.Native.Nat.{ℕ, _+_, _-_, _≤_, _<_}
 use native.Mathlib.Omega.{arith}
 use lib.ListN.{length, take}
-use Rattle.spec.specs.Rule.{form32}
-use Rattle.grammar.specs.Reading.{Waiting, levelOf, rank, Entry, Built, unwound, waits}
+use Rattle.grammar.specs.Reading.{unwound, waits}
 use Rattle.text.specs.Building.{lastOf, begins, words, beginCost, finishCost}
 use Rattle.text.specs.Stacks.{waitingOf, entryOf, stackOf, builtOf, owed, LeftSmall, Holds, Fitting, Unwinds}
 use Rattle.text.specs.Progress.{Builds}
+use Rattle.rule.specs.Nodes.{formIn}
 use Rattle.text.proofs.BuildLaws.{begins-length}
 use Rattle.text.proofs.StackLaws.{stack-length, finish-some, entries-owed, unwound-weight}
 use Rattle.text.proofs.HoldLaws.{length-held}
@@ -26,16 +26,16 @@ module _ (stack : List ℕ) (top : ℕ) (table : List ℕ) (count word : ℕ) (f
       let c = finish-some (waitingOf word) in
       (omega arith, omega arith)
 
-  pub waits-builds : (depth left : ℕ) (stack′ : List ℕ) (t : ℕ) (table′ : List ℕ) (n : ℕ) → Holds table′ n (begins form32 (waitingOf word) (take count table))
+  pub waits-builds : (depth left : ℕ) (stack′ : List ℕ) (t : ℕ) (table′ : List ℕ) (n : ℕ) → Holds table′ n (begins formIn (waitingOf word) (take count table))
       → left ≡ n - 1 → length stack′ ≡ 96 → stackOf stack′ t ≡ entryOf word left depth ∷ stackOf stack top
-      → Builds stack′ t table′ n (waits (words form32) depth (waitingOf word) (builtOf stack top table count))
+      → Builds stack′ t table′ n (waits (words formIn) depth (waitingOf word) (builtOf stack top table count))
   unfolding owed LeftSmall
   waits-builds depth left stack′ t table′ n h e l s =
-      let a = begins-length form32 (waitingOf word) (take count table) in
+      let a = begins-length formIn (waitingOf word) (take count table) in
       let b = length-held count table (omega arith) (f .table-long) in
       let c = h .count in
       let o = ap owed s in
-      let z : left ≡ lastOf (begins form32 (waitingOf word) (take count table)) = omega arith in
+      let z : left ≡ lastOf (begins formIn (waitingOf word) (take count table)) = omega arith in
       record {
         built = ap₂ (λ x y. record { stack = x; value = y })
             (s ∙ ap (λ k. entryOf word k depth ∷ stackOf stack top) z) (h .words);
@@ -52,7 +52,7 @@ module _ (stack : List ℕ) (top : ℕ) (table : List ℕ) (count word limit t :
     (room : count + owed (stackOf stack top) + (beginCost (waitingOf word) + finishCost (waitingOf word)) ≤ 32) (u : Unwinds stack top table count limit t after n) where
   pub join-room : Fitting stack t after n × (n + owed (stackOf stack t) + (beginCost (waitingOf word) + finishCost (waitingOf word)) ≤ 32)
   join-room =
-      let a = unwound-weight form32 limit (stackOf stack top) (take count table) in
+      let a = unwound-weight formIn limit (stackOf stack top) (take count table) in
       let b = ap (λ x. length (x .value) + owed (x .stack)) (u .built) in
       let r = u .fits .room in
       let c = length-held n after (omega arith) (u .fits .table-long) in
@@ -60,6 +60,6 @@ module _ (stack : List ℕ) (top : ℕ) (table : List ℕ) (count word limit t :
       (u .fits, omega arith)
 
   pub join-builds : (depth : ℕ) (stack′ : List ℕ) (t′ : ℕ) (table′ : List ℕ) (n′ : ℕ)
-      → Builds stack′ t′ table′ n′ (waits (words form32) depth (waitingOf word) (builtOf stack t after n))
-      → Builds stack′ t′ table′ n′ (waits (words form32) depth (waitingOf word) (unwound (words form32) limit (stackOf stack top) (take count table)))
-  join-builds depth stack′ t′ table′ n′ x = subst (λ y. Builds stack′ t′ table′ n′ (waits (words form32) depth (waitingOf word) y)) (u .built) x
+      → Builds stack′ t′ table′ n′ (waits (words formIn) depth (waitingOf word) (builtOf stack t after n))
+      → Builds stack′ t′ table′ n′ (waits (words formIn) depth (waitingOf word) (unwound (words formIn) limit (stackOf stack top) (take count table)))
+  join-builds depth stack′ t′ table′ n′ x = subst (λ y. Builds stack′ t′ table′ n′ (waits (words formIn) depth (waitingOf word) y)) (u .built) x

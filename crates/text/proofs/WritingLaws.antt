@@ -3,29 +3,28 @@
 --     writing-start, writing-token, writing-many, writing-ready, writing-next, writing-stuck, writing-end
 -- Assumes nothing.
 use mathlib.Core.Path.{_≡_, refl, sym, subst, ap, ap₂, _∙_}
-use mathlib.Core.Bool.{Bool, true, false}
+use mathlib.Core.Bool.{true, false}
 use mathlib.Core.Option.{none, some}
-use mathlib.Core.List.{List, [], _∷_, _++_, map, append-nil}
-use Prim.Native.Nat.{ℕ, suc, _+_, _-_, _≤_, _<_}
+use mathlib.Core.List.{List, [], _∷_, _++_, map}
+use Prim.Native.Nat.{ℕ, _+_, _-_, _≤_, _<_}
 use native.Mathlib.Omega.{arith}
 use lib.ListN.{length, take, drop, replicate, drop-of-length-le}
 use Rattle.spec.specs.Questions.{passed}
-use Rattle.spec.specs.Rule.{form32}
 use Rattle.grammar.specs.Typed.{opened}
 use Rattle.grammar.specs.Grammar.{Token, word, register, number, sign}
-use Rattle.grammar.specs.Scan.{between, start, stuckFrom, question16, tokensFrom, tokensOf}
-use Rattle.grammar.specs.Reading.{Built, Reading, read, readAll, whole, nothingRead, unwound, formulaOf}
+use Rattle.grammar.specs.Scan.{start, stuckFrom, question16, tokensFrom, tokensOf}
+use Rattle.grammar.specs.Reading.{Reading, read, readAll, whole, nothingRead, formulaOf}
 use Rattle.grammar.specs.Nodes.{size, ruleWords}
 use Rattle.grammar.specs.Texting.{question17}
-use Rattle.grammar.specs.TextPromise.{TokenInRange, AllInRange}
+use Rattle.grammar.specs.TextPromise.{AllInRange}
 use Rattle.grammar.proofs.JumpLaws.{none-some, tokens-end}
 use Rattle.grammar.proofs.ReadingLaws.{read-append, read-spelled}
 use Rattle.grammar.proofs.ScanLaws.{passes-through, passes-text, text-tokens, text-formula}
 use Rattle.grammar.proofs.RangeLaws.{fit-append, range-tokens}
 use Rattle.text.specs.Tokens.{tokensIn, capped, cappedToken}
 use Rattle.text.specs.Places.{scanOf, scanAfter, Over}
-use Rattle.text.specs.Building.{words, tokenCost, cost}
-use Rattle.text.specs.Stacks.{stackOf, builtOf, owed, LeftSmall, Holds, Fitting, Unwinds}
+use Rattle.text.specs.Building.{words, cost}
+use Rattle.text.specs.Stacks.{stackOf, owed, LeftSmall, Fitting, Unwinds}
 use Rattle.text.specs.Progress.{readingOf, depthIn, Ready, Takes, TableOf}
 use Rattle.text.specs.declared.token.Prefix.the-variants as prefix
 use Rattle.text.specs.declared.token.Operator.the-variants as operator
@@ -34,6 +33,7 @@ use Rattle.text.specs.declared.token.Token.the-variants as variant
 use Rattle.text.specs.declared.scan.Want.{Want}
 use Rattle.text.specs.declared.scan.Between.{Between}
 use Rattle.text.specs.declared.write.Progress.{Progress}
+use Rattle.rule.specs.Nodes.{formIn}
 use Rattle.text.proofs.DigitLaws.{cap-low}
 use Rattle.text.proofs.TurnLaws.{Turning, turning-start, turning-next, depthOf}
 use Rattle.text.proofs.BuildLaws.{build-words, cost-append, cost-size}
@@ -43,11 +43,11 @@ use Rattle.text.proofs.HoldLaws.{length-held}
 -- ---- a text that questions 16 and 17 let pass
 
 module _ (text : List ℕ) (q₁₆ : question16 text ≡ passed tt) (q₁₇ : question17 text ≡ passed tt) where
-  whole-table : whole (words form32) (readAll (words form32) (nothingRead []) (tokensOf text)) ≡ ruleWords form32 (opened (formulaOf text))
+  whole-table : whole (words formIn) (readAll (words formIn) (nothingRead []) (tokensOf text)) ≡ ruleWords formIn (opened (formulaOf text))
   whole-table =
       let (φ, x) = passes-text text q₁₆ in
-      ap (λ ts. whole (words form32) (readAll (words form32) (nothingRead []) ts)) (text-tokens text φ x) ∙ read-spelled (words form32) (x .spells) []
-      ∙ build-words form32 φ ∙ ap (λ ψ. ruleWords form32 (opened ψ)) (sym (text-formula text φ x))
+      ap (λ ts. whole (words formIn) (readAll (words formIn) (nothingRead []) ts)) (text-tokens text φ x) ∙ read-spelled (words formIn) (x .spells) []
+      ∙ build-words formIn φ ∙ ap (λ ψ. ruleWords formIn (opened ψ)) (sym (text-formula text φ x))
 
   whole-cost : cost (tokensOf text) ≡ size (opened (formulaOf text))
   whole-cost =
@@ -87,18 +87,18 @@ cost-small variant.Close = omega arith
 cost-small variant.Equal = omega arith
 cost-small variant.Below = omega arith
 
-weight-all : (r : Reading (List ℕ) ℕ) (ts : List Token) → weight (readAll (words form32) r ts .built) ≡ weight (r .built) + cost ts
+weight-all : (r : Reading (List ℕ) ℕ) (ts : List Token) → weight (readAll (words formIn) r ts .built) ≡ weight (r .built) + cost ts
 unfolding readAll cost
 weight-all r [] = omega arith
-weight-all r (t ∷ ts) = let a = weight-all (read (words form32) r t) ts in let b = read-weight form32 r t in omega arith
+weight-all r (t ∷ ts) = let a = weight-all (read (words formIn) r t) ts in let b = read-weight formIn r t in omega arith
 
-register-all : (r : Reading (List ℕ) ℕ) (ts : List Token) → AllInRange ts → r .ofRegister ≤ 15 → readAll (words form32) r ts .ofRegister ≤ 15
+register-all : (r : Reading (List ℕ) ℕ) (ts : List Token) → AllInRange ts → r .ofRegister ≤ 15 → readAll (words formIn) r ts .ofRegister ≤ 15
 unfolding readAll read
 register-all r [] f h = h
-register-all r (word w ∷ ts) f h = register-all (read (words form32) r (word w)) ts (f .1) h
-register-all r (register n ∷ ts) f h = register-all (read (words form32) r (register n)) ts (f .1) (f .0)
-register-all r (number n ∷ ts) f h = register-all (read (words form32) r (number n)) ts (f .1) h
-register-all r (sign s ∷ ts) f h = register-all (read (words form32) r (sign s)) ts (f .1) h
+register-all r (word w ∷ ts) f h = register-all (read (words formIn) r (word w)) ts (f .1) h
+register-all r (register n ∷ ts) f h = register-all (read (words formIn) r (register n)) ts (f .1) (f .0)
+register-all r (number n ∷ ts) f h = register-all (read (words formIn) r (number n)) ts (f .1) h
+register-all r (sign s ∷ ts) f h = register-all (read (words formIn) r (sign s)) ts (f .1) h
 
 -- the brackets that are open after a token
 depth-same : (w : Want) (d : ℕ) (x : token.Token) → depthOf (scanAfter w d x) ≡ depthIn d (tokensIn x)
@@ -118,7 +118,7 @@ depth-same w d variant.Below = refl
 pub record Writing (text stack table : List ℕ) (p : Progress) (s : Between) (total at : ℕ) : Type 0 where
   pub turning : Turning text s at
   pub through : stuckFrom 0 start text ≡ none
-  pub reading : whole (words form32) (readAll (words form32) (readingOf stack table p (s .depth)) (tokensFrom (scanOf s) (drop at text))) ≡ ruleWords form32 (opened (formulaOf text))
+  pub reading : whole (words formIn) (readAll (words formIn) (readingOf stack table p (s .depth)) (tokensFrom (scanOf s) (drop at text))) ≡ ruleWords formIn (opened (formulaOf text))
   pub spent : total + cost (tokensFrom (scanOf s) (drop at text)) ≡ size (opened (formulaOf text))
   pub weighed : p .height .count + owed (stackOf stack (p .height .top)) ≡ total
   pub few : total ≤ 32
@@ -137,7 +137,7 @@ writing-start text table s q₁₆ q₁₇ l e =
     record {
       turning = turning-start text s e;
       through = passes-through text q₁₆;
-      reading = ap₂ (λ n x. whole (words form32) (readAll (words form32) (readingOf (replicate 96 0) table firstPen n) (tokensFrom x text))) d e ∙ whole-table text q₁₆ q₁₇;
+      reading = ap₂ (λ n x. whole (words formIn) (readAll (words formIn) (readingOf (replicate 96 0) table firstPen n) (tokensFrom x text))) d e ∙ whole-table text q₁₆ q₁₇;
       spent = let a = whole-cost text q₁₆ q₁₇ in let b = ap (λ x. cost (tokensFrom x text)) e in omega arith;
       weighed = refl;
       few = omega arith;
@@ -199,10 +199,10 @@ module _ (text stack table : List ℕ) (p : Progress) (s : Between) (total at : 
           record {
             turning = turning-next text s at (x .turning) s′ t next o e;
             through = x .through;
-            reading = ap₂ (λ n y. whole (words form32) (readAll (words form32) (readingOf stack′ table′ q n) (tokensFrom y (drop next text)))) d e
-                ∙ ap (λ r. whole (words form32) (readAll (words form32) r later)) (k .reading)
-                ∙ ap (whole (words form32)) (sym (read-append (words form32) (readingOf stack table p (s .depth)) (tokensIn t) later))
-                ∙ ap (λ l. whole (words form32) (readAll (words form32) (readingOf stack table p (s .depth)) l)) (sym rest-is)
+            reading = ap₂ (λ n y. whole (words formIn) (readAll (words formIn) (readingOf stack′ table′ q n) (tokensFrom y (drop next text)))) d e
+                ∙ ap (λ r. whole (words formIn) (readAll (words formIn) r later)) (k .reading)
+                ∙ ap (whole (words formIn)) (sym (read-append (words formIn) (readingOf stack table p (s .depth)) (tokensIn t) later))
+                ∙ ap (λ l. whole (words formIn) (readAll (words formIn) (readingOf stack table p (s .depth)) l)) (sym rest-is)
                 ∙ x .reading;
             spent = let y = spent-is in let z = ap (λ y. cost (tokensFrom y (drop next text))) e in omega arith;
             weighed = omega arith;
@@ -223,8 +223,8 @@ module _ (text stack table : List ℕ) (p : Progress) (s : Between) (total at : 
         let a = x .spent in
         let b = ap cost none-left in
         let f = x .few in
-        let words-are : take n after ≡ ruleWords form32 (opened (formulaOf text)) = ap (λ y. y .value) (u .built)
-        ∙ sym (ap (λ l. whole (words form32) (readAll (words form32) (readingOf stack table p (s .depth)) l)) none-left) ∙ x .reading in
+        let words-are : take n after ≡ ruleWords formIn (opened (formulaOf text)) = ap (λ y. y .value) (u .built)
+        ∙ sym (ap (λ l. whole (words formIn) (readAll (words formIn) (readingOf stack table p (s .depth)) l)) none-left) ∙ x .reading in
         let c = length-held n after (let z = u .fits .room in omega arith) (u .fits .table-long) in
         let d = ap length words-are in
         record {

@@ -3,7 +3,7 @@ use mathlib.Core.Path.{_≡_}
 use mathlib.Core.Bool.{Bool}
 use mathlib.Core.List.{List, [], _∷_}
 use Prim.Native.Nat.{ℕ, _+_, _≤_, _<_}
-use Rattle.spec.specs.Rule.{form32}
+use Rattle.rule.specs.Nodes.{formIn}
 use Rattle.grammar.specs.Typed.{opened}
 use Rattle.grammar.specs.Grammar.{Token}
 use Rattle.grammar.specs.Nodes.{size, ruleWords}
@@ -47,12 +47,12 @@ pub record Ready (stack table : List ℕ) (p : Progress) (t : token.Token) : Typ
 
 -- what is built after it
 pub record Takes (stack table : List ℕ) (p : Progress) (depth : ℕ) (t : token.Token) (stack′ table′ : List ℕ) (r : Progress) : Type 0 where
-  pub reading : readingOf stack′ table′ r (depthIn depth (tokensIn t)) ≡ readAll (words form32) (readingOf stack table p depth) (tokensIn t)
+  pub reading : readingOf stack′ table′ r (depthIn depth (tokensIn t)) ≡ readAll (words formIn) (readingOf stack table p depth) (tokensIn t)
   pub fits : Fitting stack′ (r .height .top) table′ (r .height .count)
 
 -- ---- a whole text
 
 -- the text's table: as many words as the opened formula has nodes; or there are more than 32
 pub record TableOf (text table : List ℕ) (n : ℕ) : Type 0 where
-  pub few : size (opened (formulaOf text)) ≤ 32 → Holds table n (ruleWords form32 (opened (formulaOf text)))
+  pub few : size (opened (formulaOf text)) ≤ 32 → Holds table n (ruleWords formIn (opened (formulaOf text)))
   pub many : 32 < size (opened (formulaOf text)) → 32 < n

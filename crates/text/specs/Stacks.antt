@@ -6,7 +6,7 @@ use mathlib.Core.List.{List, [], _∷_}
 use Prim.Native.Nat.{ℕ, zero, suc, _+_, _*_, _≤_, _<_}
 use lib.ListN.{length, getD, take}
 use lib.Dec.{leb}
-use Rattle.spec.specs.Rule.{form32}
+use Rattle.rule.specs.Nodes.{formIn}
 use Rattle.grammar.specs.Typed.{not, wprev, prev, once, sofar, sinceWord, andWord, orWord, impliesWord, Comparison, equalTo, lessThan}
 use Rattle.grammar.specs.Reading.{Waiting, awaiting, withLeft, levelOf, rank, Entry, Built, Reading, unwound}
 use Rattle.text.specs.Building.{words, finishCost}
@@ -66,5 +66,5 @@ endsTop limit (e ∷ s) = leb limit (e .tight)
 
 -- what ends has ended
 pub record Unwinds (stack : List ℕ) (top : ℕ) (table : List ℕ) (count limit : ℕ) (t : ℕ) (after : List ℕ) (n : ℕ) : Type 0 where
-  pub built : builtOf stack t after n ≡ unwound (words form32) limit (stackOf stack top) (take count table)
+  pub built : builtOf stack t after n ≡ unwound (words formIn) limit (stackOf stack top) (take count table)
   pub fits : Fitting stack t after n

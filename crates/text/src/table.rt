@@ -1,10 +1,13 @@
 // Nodes put one after the other into a table of 32. `n` are there; each function hands back how many are then.
 use crate::token::minus;
+use rule::node::Node;
+use rule::node::node_word;
 ghost use mathlib.Core.Path.{_≡_};
 ghost use mathlib.Core.List.{[], _∷_, _++_};
 ghost use Prim.Native.Nat.{_+_, _*_, _≤_, _<_};
 ghost use lib.ListN.{length, take};
-ghost use Rattle.spec.specs.Rule.{form32, falseNode, testNode};
+ghost use Rattle.spec.specs.Rule.{falseNode, testNode};
+ghost use Rattle.rule.specs.Nodes.{formIn, nodeRead, NodeSmall};
 ghost use Rattle.grammar.specs.Typed.{prev, sofar, andWord, testOf};
 ghost use Rattle.grammar.specs.Grammar.{constantWord, word};
 ghost use Rattle.grammar.specs.Reading.{awaiting, withLeft};
@@ -30,28 +33,20 @@ pub(crate) const OR: usize = 7;
 
 pub(crate) const IMPLIES: usize = 8;
 
-// One more node, by its word.
-fn put_word(table: &mut [u32; 32], n: usize, word: u32) -> usize
-    requires { ⌜ (n < 32) × (length (now table) ≡ 32) ⌝ }
-    ensures { λ r. ⌜ Holds (now (table .exit)) r (take n (now (table .entry)) ++ word ∷ []) ⌝ }
+// One more node.
+fn put_node(table: &mut [u32; 32], n: usize, x: Node) -> usize
+    requires { ⌜ (n < 32) × (length (now table) ≡ 32) × NodeSmall (nodeRead x) ⌝ }
+    ensures { λ r. ⌜ Holds (now (table .exit)) r (put formIn (nodeRead x) (take n (now (table .entry)))) ⌝ }
 {
-    table[n] = word;
+    table[n] = node_word(x);
     n + 1
-}
-
-// The word of a node that is no test.
-fn node_word(kind: u32, left: usize, right: usize) -> u32
-    requires { ⌜ (kind < 8) × (left < 32) × (right < 32) ⌝ }
-    ensures { λ r. ⌜ r ≡ kind * 536870912 + left * 64 + right * 2 ⌝ }
-{
-    kind * 536870912 + left as u32 * 64 + right as u32 * 2
 }
 
 fn put_false(table: &mut [u32; 32], n: usize) -> usize
     requires { ⌜ (n < 32) × (length (now table) ≡ 32) ⌝ }
-    ensures { λ r. ⌜ Holds (now (table .exit)) r (put form32 falseNode (take n (now (table .entry)))) ⌝ }
+    ensures { λ r. ⌜ Holds (now (table .exit)) r (put formIn falseNode (take n (now (table .entry)))) ⌝ }
 {
-    put_word(table, n, 0)
+    put_node(table, n, Node::False)
 }
 
 pub(crate) fn put_test(
@@ -62,41 +57,58 @@ pub(crate) fn put_test(
     constant: u32,
 ) -> usize
     requires { ⌜ (n < 32) × (length (now table) ≡ 32) × (register ≤ 15) × (constant ≤ 16383) ⌝ }
-    ensures { λ r. ⌜ Holds (now (table .exit)) r (put form32 (testNode (testOf (comparisonOf below) register constant)) (take n (now (table .entry)))) ⌝ }
+    ensures { λ r. ⌜ Holds (now (table .exit)) r (put formIn (testNode (testOf (comparisonOf below) register constant)) (take n (now (table .entry)))) ⌝ }
 {
-    let fields = register * 33554432 + constant * 2048;
+    let r = register as usize;
+    let c = constant as u16;
     if below {
-        put_word(table, n, 1073741824 + fields)
+        put_node(
+            table,
+            n,
+            Node::Below {
+                register: r,
+                constant: c,
+            },
+        )
     } else {
-        put_word(table, n, 536870912 + fields)
+        put_node(
+            table,
+            n,
+            Node::Equal {
+                register: r,
+                constant: c,
+            },
+        )
     }
 }
 
 fn put_implies(table: &mut [u32; 32], n: usize, left: usize) -> usize
     requires { ⌜ (n < 32) × (length (now table) ≡ 32) × (left < 32) ⌝ }
-    ensures { λ r. ⌜ Holds (now (table .exit)) r (putImplies form32 left (take n (now (table .entry)))) ⌝ }
+    ensures { λ r. ⌜ Holds (now (table .exit)) r (putImplies formIn left (take n (now (table .entry)))) ⌝ }
 {
-    put_word(table, n, node_word(3, left, minus(n, 1)))
+    let right = minus(n, 1);
+    put_node(table, n, Node::Implies { left, right })
 }
 
 fn put_since(table: &mut [u32; 32], n: usize, left: usize) -> usize
     requires { ⌜ (n < 32) × (length (now table) ≡ 32) × (left < 32) ⌝ }
-    ensures { λ r. ⌜ Holds (now (table .exit)) r (putSince form32 left (take n (now (table .entry)))) ⌝ }
+    ensures { λ r. ⌜ Holds (now (table .exit)) r (putSince formIn left (take n (now (table .entry)))) ⌝ }
 {
-    put_word(table, n, node_word(4, left, minus(n, 1)))
+    let right = minus(n, 1);
+    put_node(table, n, Node::Since { left, right })
 }
 
 fn put_weak(table: &mut [u32; 32], n: usize) -> usize
     requires { ⌜ (n < 32) × (length (now table) ≡ 32) ⌝ }
-    ensures { λ r. ⌜ Holds (now (table .exit)) r (putWeak form32 (take n (now (table .entry)))) ⌝ }
+    ensures { λ r. ⌜ Holds (now (table .exit)) r (putWeak formIn (take n (now (table .entry)))) ⌝ }
 {
-    put_word(table, n, node_word(5, minus(n, 1), 0))
+    put_node(table, n, Node::WeakPrevious { left: minus(n, 1) })
 }
 
 // Not of the last node.
 pub(crate) fn put_not(table: &mut [u32; 32], n: usize) -> usize
     requires { ⌜ (n + 2 ≤ 32) × (length (now table) ≡ 32) ⌝ }
-    ensures { λ r. ⌜ Holds (now (table .exit)) r (putNot form32 (take n (now (table .entry)))) ⌝ }
+    ensures { λ r. ⌜ Holds (now (table .exit)) r (putNot formIn (take n (now (table .entry)))) ⌝ }
 {
     let a = put_false(table, n);
     put_implies(table, a, minus(n, 1))
@@ -104,7 +116,7 @@ pub(crate) fn put_not(table: &mut [u32; 32], n: usize) -> usize
 
 pub(crate) fn put_true(table: &mut [u32; 32], n: usize) -> usize
     requires { ⌜ (n + 3 ≤ 32) × (length (now table) ≡ 32) ⌝ }
-    ensures { λ r. ⌜ Holds (now (table .exit)) r (putTrue form32 (take n (now (table .entry)))) ⌝ }
+    ensures { λ r. ⌜ Holds (now (table .exit)) r (putTrue formIn (take n (now (table .entry)))) ⌝ }
 {
     let a = put_false(table, n);
     put_not(table, a)
@@ -112,7 +124,7 @@ pub(crate) fn put_true(table: &mut [u32; 32], n: usize) -> usize
 
 pub(crate) fn put_constant(table: &mut [u32; 32], n: usize, value: bool) -> usize
     requires { ⌜ (n + tokenCost (word (constantWord value)) ≤ 32) × (length (now table) ≡ 32) ⌝ }
-    ensures { λ r. ⌜ Holds (now (table .exit)) r (putConstant form32 value (take n (now (table .entry)))) ⌝ }
+    ensures { λ r. ⌜ Holds (now (table .exit)) r (putConstant formIn value (take n (now (table .entry)))) ⌝ }
 {
     if value {
         put_true(table, n)
@@ -123,7 +135,7 @@ pub(crate) fn put_constant(table: &mut [u32; 32], n: usize, value: bool) -> usiz
 
 fn put_prev(table: &mut [u32; 32], n: usize) -> usize
     requires { ⌜ (n + 5 ≤ 32) × (length (now table) ≡ 32) ⌝ }
-    ensures { λ r. ⌜ Holds (now (table .exit)) r (finishes form32 (awaiting prev) 0 (take n (now (table .entry)))) ⌝ }
+    ensures { λ r. ⌜ Holds (now (table .exit)) r (finishes formIn (awaiting prev) 0 (take n (now (table .entry)))) ⌝ }
 {
     let a = put_not(table, n);
     let b = put_weak(table, a);
@@ -132,7 +144,7 @@ fn put_prev(table: &mut [u32; 32], n: usize) -> usize
 
 fn put_sofar(table: &mut [u32; 32], n: usize, left: usize) -> usize
     requires { ⌜ (n + 5 ≤ 32) × (length (now table) ≡ 32) × (left < 32) ⌝ }
-    ensures { λ r. ⌜ Holds (now (table .exit)) r (finishes form32 (awaiting sofar) left (take n (now (table .entry)))) ⌝ }
+    ensures { λ r. ⌜ Holds (now (table .exit)) r (finishes formIn (awaiting sofar) left (take n (now (table .entry)))) ⌝ }
 {
     let a = put_not(table, n);
     let b = put_since(table, a, left);
@@ -141,7 +153,7 @@ fn put_sofar(table: &mut [u32; 32], n: usize, left: usize) -> usize
 
 fn put_and(table: &mut [u32; 32], n: usize, left: usize) -> usize
     requires { ⌜ (n + 5 ≤ 32) × (length (now table) ≡ 32) × (left < 32) ⌝ }
-    ensures { λ r. ⌜ Holds (now (table .exit)) r (finishes form32 (withLeft andWord) left (take n (now (table .entry)))) ⌝ }
+    ensures { λ r. ⌜ Holds (now (table .exit)) r (finishes formIn (withLeft andWord) left (take n (now (table .entry)))) ⌝ }
 {
     let a = put_not(table, n);
     let b = put_implies(table, a, left);
@@ -151,7 +163,7 @@ fn put_and(table: &mut [u32; 32], n: usize, left: usize) -> usize
 // What a word puts whose operand has ended; `left` is the node to its left.
 pub(crate) fn put_end(table: &mut [u32; 32], n: usize, word: usize, left: usize) -> usize
     requires { ⌜ (n + finishCost (waitingOf word) ≤ 32) × (length (now table) ≡ 32) × (left < 32) ⌝ }
-    ensures { λ r. ⌜ Holds (now (table .exit)) r (finishes form32 (waitingOf word) left (take n (now (table .entry)))) ⌝ }
+    ensures { λ r. ⌜ Holds (now (table .exit)) r (finishes formIn (waitingOf word) left (take n (now (table .entry)))) ⌝ }
 {
     match word {
         NOT => put_not(table, n),

@@ -28,7 +28,7 @@ ghost use mathlib.Core.Path.{_≡_};
 ghost use Prim.Native.Nat.{suc, _+_, _≤_};
 ghost use lib.ListN.{length, take};
 ghost use Rattle.spec.specs.Questions.{passed};
-ghost use Rattle.spec.specs.Rule.{form32};
+ghost use Rattle.rule.specs.Nodes.{formIn};
 ghost use Rattle.grammar.specs.Grammar as grammar;
 ghost use Rattle.grammar.specs.Grammar.{prefixWord, operatorWord, strength};
 ghost use Rattle.grammar.specs.Scan.{question16};
@@ -84,7 +84,7 @@ fn operator_level(word: Operator) -> usize
 // What a word puts where it is read: true comes before the operand of once and sofar, and or negates its left operand.
 fn put_begin(table: &mut [u32; 32], n: usize, word: usize) -> usize
     requires { ⌜ (n + beginCost (waitingOf word) ≤ 32) × (length (now table) ≡ 32) ⌝ }
-    ensures { λ r. ⌜ Holds (now (table .exit)) r (begins form32 (waitingOf word) (take n (now (table .entry)))) ⌝ }
+    ensures { λ r. ⌜ Holds (now (table .exit)) r (begins formIn (waitingOf word) (take n (now (table .entry)))) ⌝ }
 {
     match word {
         ONCE => put_true(table, n),
@@ -104,7 +104,7 @@ fn wait(
     depth: usize,
 ) -> Height
     requires { ⌜ Fitting (now stack) top (now table) count × (count + owed (stackOf (now stack) top) + (beginCost (waitingOf word) + finishCost (waitingOf word)) ≤ 32) ⌝ }
-    ensures { λ r. ⌜ Builds (now (stack .exit)) (r .top) (now (table .exit)) (r .count) (waits (words form32) depth (waitingOf word) (builtOf (now (stack .entry)) top (now (table .entry)) count)) ⌝ }
+    ensures { λ r. ⌜ Builds (now (stack .exit)) (r .top) (now (table .exit)) (r .count) (waits (words formIn) depth (waitingOf word) (builtOf (now (stack .entry)) top (now (table .entry)) count)) ⌝ }
 {
     let n = put_begin(table, count, word);
     let t = push(stack, top, word, minus(n, 1), depth);
@@ -122,7 +122,7 @@ fn join(
     level: usize,
 ) -> Height
     requires { ⌜ Fitting (now stack) top (now table) count × (count + owed (stackOf (now stack) top) + (beginCost (waitingOf word) + finishCost (waitingOf word)) ≤ 32) × (level ≤ 4) ⌝ }
-    ensures { λ r. ⌜ Builds (now (stack .exit)) (r .top) (now (table .exit)) (r .count) (waits (words form32) depth (waitingOf word) (unwound (words form32) (rank depth level) (stackOf (now (stack .entry)) top) (take count (now (table .entry))))) ⌝ }
+    ensures { λ r. ⌜ Builds (now (stack .exit)) (r .top) (now (table .exit)) (r .count) (waits (words formIn) depth (waitingOf word) (unwound (words formIn) (rank depth level) (stackOf (now (stack .entry)) top) (take count (now (table .entry))))) ⌝ }
 {
     let ended = unwind(stack, top, table, count, depth, level);
     wait(stack, ended.top, table, ended.count, word, depth)

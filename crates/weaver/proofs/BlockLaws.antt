@@ -20,10 +20,10 @@ use Rattle.spec.specs.Check.{Lines}
 use Rattle.spec.specs.Weaver.{line, doneFacts, keepFacts, decideSize, decide, updates, updatesSize, keeps, blockSize, block, workCode, workSize}
 use Rattle.spec.proofs.RuleLaws.{InOrder, length-table, rule-out}
 use Rattle.spec.proofs.WeaverLaws.{pasts-count, length-decide, length-updates, length-keeps, length-work}
-use Rattle.layout.specs.Layout.{tableIn}
 use Rattle.weaver.specs.Laid.{Deciding, Updatable, Guarding, Blocking, Working}
-use Rattle.output.specs.Written.{written}
 use Rattle.weaver.specs.Parts.{presentLines, guardLines}
+use Rattle.rule.specs.Nodes.{tableIn, formIn}
+use Rattle.facts.specs.Written.{written}
 use Rattle.weaver.proofs.SeriesLaws.{Series, Filled, filled-room, filled-part}
 
 -- ---- a node at a time
@@ -68,7 +68,7 @@ pub keeps-length : (t : Table) → length (keeps (length t) t) ≡ count isPast 
 keeps-length t = length-keeps (length t) t ∙ pasts-count t
 
 pub all-keeps : (rule : List ℕ) → length (keeps (length rule) (tableIn rule)) ≡ count isPast (tableIn rule)
-all-keeps rule = ap (λ n. length (keeps n (tableIn rule))) (sym (length-table form32 rule)) ∙ keeps-length (tableIn rule)
+all-keeps rule = ap (λ n. length (keeps n (tableIn rule))) (sym (length-table formIn rule)) ∙ keeps-length (tableIn rule)
 
 pub keeping-room : (rule out : List ℕ) → 8 * count isPast (tableIn rule) ≤ length out → 8 * length (keeps (length rule) (tableIn rule)) ≤ length out
 keeping-room rule out h = omega (arith, all-keeps rule)
@@ -82,13 +82,13 @@ count-few [] = omega arith
 count-few (x ∷ t) = one-more (isPast x) (count isPast t) (length t) (count-few t)
 
 pub keeping-few : (rule : List ℕ) → length rule ≤ 64 → length (keeps (length rule) (tableIn rule)) ≤ 64
-keeping-few rule h = omega (arith, all-keeps rule, count-few (tableIn rule), length-table form32 rule)
+keeping-few rule h = omega (arith, all-keeps rule, count-few (tableIn rule), length-table formIn rule)
 
 -- ---- the code of the nodes with a work bit
 
 module _ (rule sizes : List ℕ) (shared : ℕ) (place : ℕ) (out₀ : List ℕ) (u : Updatable rule sizes shared place out₀) where
   order : InOrder (tableIn rule)
-  order = rule-out form32 rule (u .sized .0) .ordered
+  order = rule-out formIn rule (u .sized .0) .ordered
 
   all-updates : length (updates (length rule) (tableIn rule) place) ≡ updatesSize (length rule) (tableIn rule)
   all-updates = length-updates (tableIn rule) order (length rule) place
@@ -137,7 +137,7 @@ module _ (rule sizes : List ℕ) (shared : ℕ) (place : ℕ) (out₀ : List ℕ
 pub present-code : (rule : List ℕ) (F : Facts) → (line present (F ∪ one (valueIs true) (length rule - 1)) ∷ []) ++ keeps (length rule) (tableIn rule) ≡ presentLines (tableIn rule) F
 unfolding presentLines
 present-code rule F =
-    ap (λ n. line present (F ∪ one (valueIs true) (n - 1)) ∷ keeps n (tableIn rule)) (sym (length-table form32 rule))
+    ap (λ n. line present (F ∪ one (valueIs true) (n - 1)) ∷ keeps n (tableIn rule)) (sym (length-table formIn rule))
 
 present-length : (t : Table) (F : Facts) → length (presentLines t F) ≡ 1 + count isPast t
 unfolding presentLines
@@ -150,11 +150,11 @@ module _ (rule sizes : List ℕ) (shared : ℕ) (place end : ℕ) (out : List �
   last = length rule - 1
 
   last-is : lastNode (tableIn rule) ≡ last
-  last-is = ap (λ n. n - 1) (length-table form32 rule)
+  last-is = ap (λ n. n - 1) (length-table formIn rule)
 
   pub guard-few : (0 < length rule) × (length rule ≤ 32)
   unfolding form32
-  guard-few = let r = rule-out form32 rule (g .sized .0) in (r .some-node, r .few-nodes)
+  guard-few = let r = rule-out formIn rule (g .sized .0) in (r .some-node, r .few-nodes)
 
   pub guard-size : getD sizes last 0 ≡ decideSize (tableIn rule) (lastNode (tableIn rule))
   guard-size = let f = guard-few in g .sized .1 last (omega arith) ∙ ap (decideSize (tableIn rule)) (sym last-is)
@@ -178,7 +178,7 @@ module _ (rule sizes : List ℕ) (shared : ℕ) (place end : ℕ) (out : List �
   pub guard-lengths : (F : Facts) → (length (decide (tableIn rule) last place (place + getD sizes last 0) end F) ≡ getD sizes last 0)
       × (length (presentLines (tableIn rule) F) ≡ 1 + count isPast (tableIn rule))
   guard-lengths F = (
-    length-decide (tableIn rule) (rule-out form32 rule (g .sized .0) .ordered) last _ _ _ _ ∙ ap (decideSize (tableIn rule)) (sym last-is) ∙ sym guard-size,
+    length-decide (tableIn rule) (rule-out formIn rule (g .sized .0) .ordered) last _ _ _ _ ∙ ap (decideSize (tableIn rule)) (sym last-is) ∙ sym guard-size,
     present-length (tableIn rule) F,
   )
 
@@ -194,11 +194,11 @@ module _ (rule sizes : List ℕ) (shared : ℕ) (place : ℕ) (out : List ℕ) (
   t = tableIn rule
 
   ordered : InOrder t
-  ordered = rule-out form32 rule (b .sized .0) .ordered
+  ordered = rule-out formIn rule (b .sized .0) .ordered
 
   block-parts : blockSize t ≡ updatesSize (length rule) t + decideSize t (lastNode t) + 1 + count isPast t
   unfolding blockSize
-  block-parts = ap (λ n. updatesSize n t + decideSize t (lastNode t) + 1 + count isPast t) (length-table form32 rule)
+  block-parts = ap (λ n. updatesSize n t + decideSize t (lastNode t) + 1 + count isPast t) (length-table formIn rule)
 
   pub block-updatable : Updatable rule sizes shared place out
   block-updatable =
@@ -241,7 +241,7 @@ module _ (rule sizes : List ℕ) (shared : ℕ) (place : ℕ) (out : List ℕ) (
       → updates (length rule) t place ++ guardLines t (place + n) (place + size) F ≡ block t place
   unfolding block guardLines presentLines
   block-code n size F en es ef =
-      let e : length rule ≡ length t = sym (length-table form32 rule) in
+      let e : length rule ≡ length t = sym (length-table formIn rule) in
       ap₂ (λ m G. updates (length rule) t place ++ guardLines t (place + m) (place + size) G) (en ∙ ap (λ k. updatesSize k t) e) ef
       ∙ ap₂ (λ k m. updates k t place ++ guardLines t (place + updatesSize (length t) t) (place + m) (doneFacts t (length t))) e es
       ∙ sym (append-assoc (updates (length t) t place) _ _)

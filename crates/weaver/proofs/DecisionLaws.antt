@@ -17,21 +17,19 @@ use native.Mathlib.Omega.{arith}
 use lib.Dec.{ltb}
 use lib.ListN.{length, getD}
 use Rattle.spec.specs.Questions.{all}
-use Rattle.spec.specs.Rule.{form32, field, NodeFields, nodeFields, Node, falseNode, testNode, impliesNode, sinceNode, weakPreviousNode, nodeOf, Table, nodeAt, operands, isShared}
+use Rattle.spec.specs.Rule.{form32, Node, falseNode, testNode, impliesNode, sinceNode, weakPreviousNode, Table, nodeAt, operands, isShared}
 use Rattle.spec.specs.Script.{ifWork, branch, goto, wordFor, mostLines}
 use Rattle.spec.specs.Facts.{valueIs, Facts, _∪_, one}
 use Rattle.spec.specs.Check.{lineLength}
 use Rattle.spec.specs.Weaver.{sizeFrom, decideSize, leaf, decideFrom, decide}
 use Rattle.spec.proofs.BoolLaws.{clash, decided}
-use Rattle.spec.proofs.KindLaws.{by-kind}
 use Rattle.spec.proofs.RuleLaws.{InOrder, by-lower, both-lower, rule-out}
 use Rattle.spec.proofs.WeaverLaws.{size-shared, size-own, by-mention}
 use Rattle.sets.specs.Sets.{setOf}
-use Rattle.rule.proofs.NodeLaws.{node-at, kind-3}
-use Rattle.output.specs.Written.{storedLine, over, written}
-use Rattle.layout.specs.Layout.{tableIn}
 use Rattle.weaver.specs.Parts.{deciding, decidingSize}
-use Rattle.weaver.specs.Laid.{leftIn, rightIn, Deciding}
+use Rattle.weaver.specs.Laid.{Deciding}
+use Rattle.facts.specs.Written.{storedLine, over, written}
+use Rattle.rule.specs.Nodes.{tableIn, isImplies, formIn}
 use Rattle.weaver.proofs.SimpleLaws.{leaf-words}
 
 -- the measure falls
@@ -84,27 +82,30 @@ module _ (t : Table) (order : InOrder t) (k : ℕ) where
       (λ s. clash s (sym (and-true (isShared t k)) ∙ e)) (λ s. refl)
 
 -- a node's size looks at its operands for implies only
-leaf-size : (size : ℕ → ℕ) (f : NodeFields) (k : ℕ) → (f .kind ≡ 3 → ⊥) → sizeFrom size (nodeOf f) k ≡ sizeFrom (λ j. 0) (nodeOf f) k
-leaf-size size f k other =
-    by-kind f (λ i x. (i ≡ 3 → ⊥) → sizeFrom size x k ≡ sizeFrom (λ j. 0) x k) (λ o. refl) (λ o. refl) (λ o. refl) (λ o. absurd (o refl)) (λ o. refl)
-    (λ o. refl) (λ o. refl) (λ i h o. refl) other
+leaf-size : (size : ℕ → ℕ) (x : Node) (k : ℕ) → isImplies x ≡ false → sizeFrom size x k ≡ sizeFrom (λ j. 0) x k
+leaf-size size falseNode k other = refl
+leaf-size size (testNode a) k other = refl
+leaf-size size (impliesNode l r) k other = clash refl other
+leaf-size size (sinceNode l r) k other = refl
+leaf-size size (weakPreviousNode l) k other = refl
 
--- what is known of an implies node, by its word, where it can be decided by what it is
-pub record Implied (rule sizes : List ℕ) (shared : ℕ) (own : Bool) (k place onTrue onFalse : ℕ) (out : List ℕ) : Type 0 where
-  pub lower : (leftIn rule k < k) × (rightIn rule k < k)
+-- what is known of an implies node with the operands l and r, where it can be decided by what it is
+pub record Implied (rule sizes : List ℕ) (shared : ℕ) (own : Bool) (k l r place onTrue onFalse : ℕ) (out : List ℕ) : Type 0 where
+  pub lower : (l < k) × (r < k)
+  pub operand : l < 64
   pub ordered : InOrder (tableIn rule)
-  pub size : getD sizes (leftIn rule k) 0 ≡ decideSize (tableIn rule) (leftIn rule k)
+  pub size : getD sizes l 0 ≡ decideSize (tableIn rule) l
   -- where the code for right starts, in the script and in the output, which has space for it
-  pub inside : place + getD sizes (leftIn rule k) 0 < mostLines
-  pub room : lineLength * (getD sizes (leftIn rule k) 0 + decideSize (tableIn rule) (rightIn rule k)) ≤ length out
+  pub inside : place + getD sizes l 0 < mostLines
+  pub room : lineLength * (getD sizes l 0 + decideSize (tableIn rule) r) ≤ length out
   -- its operands can be decided where it can
-  pub left : Deciding rule sizes shared false (leftIn rule k) place (place + getD sizes (leftIn rule k) 0) onTrue out
-  pub right : (part : List ℕ) → length part ≡ length out - lineLength * getD sizes (leftIn rule k) 0
-      → Deciding rule sizes shared false (rightIn rule k) (place + getD sizes (leftIn rule k) 0) onTrue onFalse part
+  pub left : Deciding rule sizes shared false l place (place + getD sizes l 0) onTrue out
+  pub right : (part : List ℕ) → length part ≡ length out - lineLength * getD sizes l 0
+      → Deciding rule sizes shared false r (place + getD sizes l 0) onTrue onFalse part
   -- and their code, one after the other, is the node's
   pub code : (F : Facts)
-      → decide (tableIn rule) (leftIn rule k) place (place + getD sizes (leftIn rule k) 0) onTrue F
-      ++ decide (tableIn rule) (rightIn rule k) (place + getD sizes (leftIn rule k) 0) onTrue onFalse (F ∪ one (valueIs true) (leftIn rule k))
+      → decide (tableIn rule) l place (place + getD sizes l 0) onTrue F
+      ++ decide (tableIn rule) r (place + getD sizes l 0) onTrue onFalse (F ∪ one (valueIs true) l)
       ≡ deciding own (tableIn rule) k place onTrue onFalse F
 
 module _ (rule sizes : List ℕ) (shared : ℕ) (own : Bool) (k place onTrue onFalse : ℕ) (out : List ℕ)
@@ -112,20 +113,13 @@ module _ (rule sizes : List ℕ) (shared : ℕ) (own : Bool) (k place onTrue onF
   abbrev t : Table
   t = tableIn rule
 
-  abbrev w : ℕ
-  w = getD rule k 0
-
-  abbrev l : ℕ
-  l = leftIn rule k
-
-  abbrev r : ℕ
-  r = rightIn rule k
-
-  abbrev n : ℕ
-  n = getD sizes l 0
-
   pub order : InOrder t
-  order = rule-out form32 rule (d .sized .0) .ordered
+  order = rule-out formIn rule (d .sized .0) .ordered
+
+  -- the node's number is small
+  pub few : k < 64
+  unfolding form32
+  few = let a = rule-out formIn rule (d .sized .0) .few-nodes in let i = d .isNode in omega arith
 
   asked : (b : Bool) → (setOf shared k && not own) ≡ b → (isShared t k && not own) ≡ b
   asked b e = asked-as (setOf shared k) (isShared t k) own b (ap (λ s. s k) (d .sharedIs)) e
@@ -142,9 +136,9 @@ module _ (rule sizes : List ℕ) (shared : ℕ) (own : Bool) (k place onTrue onF
         ∙ ap (λ ls. written ls out) (by-work-code t order k own place onTrue onFalse F (asked true a))
 
   module _ (a : (setOf shared k && not own) ≡ false) where
-    module _ (e : field 29 3 w ≡ 3) where
-      is-implies : nodeAt t k ≡ impliesNode l r
-      is-implies = node-at rule k ∙ kind-3 (nodeFields w) e
+    module _ (l r : ℕ) (is-implies : nodeAt t k ≡ impliesNode l r) where
+      abbrev n : ℕ
+      n = getD sizes l 0
 
       lower : (l < k) × (r < k)
       lower = lower-left t order k l r is-implies
@@ -156,7 +150,7 @@ module _ (rule sizes : List ℕ) (shared : ℕ) (own : Bool) (k place onTrue onF
       whole =
           by-kind-size t order k own (asked false a) ∙ ap (λ x. sizeFrom (decideSize t) x k) is-implies ∙ ap (λ m. m + decideSize t r) (sym left-size)
 
-      pub implied : Implied rule sizes shared own k place onTrue onFalse out
+      pub implied : Implied rule sizes shared own k l r place onTrue onFalse out
       unfolding decideFrom
       implied =
           let b = lower in
@@ -166,6 +160,7 @@ module _ (rule sizes : List ℕ) (shared : ℕ) (own : Bool) (k place onTrue onF
           let o = d .inOutput in
           record {
             lower = b;
+            operand = omega (arith, few);
             ordered = order;
             size = left-size;
             inside = omega (arith, whole);
@@ -194,18 +189,13 @@ module _ (rule sizes : List ℕ) (shared : ℕ) (own : Bool) (k place onTrue onF
                 ∙ by-kind-code t order k own place onTrue onFalse F (asked false a);
           }
 
-    pub simple-room : (field 29 3 w ≡ 3 → ⊥) → lineLength * sizeFrom (λ j. 0) (nodeOf (nodeFields w)) k ≤ length out
-    simple-room other =
-        let e : decidingSize own t k ≡ sizeFrom (λ j. 0) (nodeOf (nodeFields w)) k =
-        by-kind-size t order k own (asked false a) ∙ ap (λ x. sizeFrom (decideSize t) x k) (node-at rule k)
-        ∙ leaf-size (decideSize t) (nodeFields w) k other in
-        subst (λ m. lineLength * m ≤ length out) e (d .inOutput)
+    module _ (x : Node) (is : nodeAt t k ≡ x) where
+      pub simple-room : isImplies x ≡ false → lineLength * sizeFrom (λ j. 0) x k ≤ length out
+      simple-room other =
+          let e : decidingSize own t k ≡ sizeFrom (λ j. 0) x k =
+          by-kind-size t order k own (asked false a) ∙ ap (λ y. sizeFrom (decideSize t) y k) is ∙ leaf-size (decideSize t) x k other in
+          subst (λ m. lineLength * m ≤ length out) e (d .inOutput)
 
-    pub simple-code : (F : Facts) → decideFrom t (decide t) (nodeOf (nodeFields w)) k place onTrue onFalse F ≡ deciding own t k place onTrue onFalse F
-    simple-code F =
-        ap (λ x. decideFrom t (decide t) x k place onTrue onFalse F) (sym (node-at rule k)) ∙ by-kind-code t order k own place onTrue onFalse F (asked false a)
-
-  -- the node's number is small
-  pub few : k < 32
-  unfolding form32
-  few = let a = rule-out form32 rule (d .sized .0) .few-nodes in let i = d .isNode in omega arith
+      pub simple-code : (F : Facts) → decideFrom t (decide t) x k place onTrue onFalse F ≡ deciding own t k place onTrue onFalse F
+      simple-code F =
+          ap (λ y. decideFrom t (decide t) y k place onTrue onFalse F) (sym is) ∙ by-kind-code t order k own place onTrue onFalse F (asked false a)

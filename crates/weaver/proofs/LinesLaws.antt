@@ -11,15 +11,15 @@ use Prim.Native.Nat.{ℕ, zero, suc, _+_, _-_, _*_, _≤_, _<_}
 use native.Mathlib.Omega.{arith}
 use lib.ListN.{length, getD, drop, length-append, drop-of-length-le}
 use lib.Seq.{drop-cons}
-use Rattle.spec.specs.Rule.{form32, Table}
+use Rattle.spec.specs.Rule.{Table}
 use Rattle.spec.specs.Script.{Instruction, halt, Code, instructionAt, instructionRead, isPresent, bareCode}
 use Rattle.spec.specs.Check.{Lines}
 use Rattle.spec.specs.Weaver.{line, bareFacts, block, blockSize, lineSize, startOf, retarget, weaveLine, weaveFrom, weave, wovenCount}
 use Rattle.spec.proofs.RuleLaws.{InOrder, rule-out}
 use Rattle.spec.proofs.WeaverLaws.{start-zero, start-next, length-weaveLine}
-use Rattle.layout.specs.Layout.{tableIn}
 use Rattle.layout.proofs.StartLaws.{code-at, length-bare, present-inside, woven-few as few}
 use Rattle.weaver.specs.Laid.{Blocking, Weaving}
+use Rattle.rule.specs.Nodes.{tableIn, formIn}
 use Rattle.weaver.proofs.SeriesLaws.{Series, Filled, filled-room, filled-part}
 
 unfoldable pub weaveUpTo : Table → Code → ℕ → Lines
@@ -97,7 +97,7 @@ module _ (rule bare sizes starts : List ℕ) (size shared past : ℕ) (v : Weavi
   code = bareCode bare
 
   pub order : InOrder table
-  order = rule-out form32 rule (v .sized .0) .ordered
+  order = rule-out formIn rule (v .sized .0) .ordered
 
   pub woven-block : (l place : ℕ) (out : List ℕ) → l < length bare → place ≡ startOf table code l → isPresent (instructionAt code l) ≡ true
       → 8 * lineSize table (instructionAt code l) ≤ length out → Blocking rule sizes shared place out

@@ -3,34 +3,36 @@
 --     deciding-in, deciding-some                 what deciding asks
 --     length-left, length-end                    sizes
 --     end-few, end-size, end-left                the rest of a since node's code
+--     since-space, weak-space, end-space, shared-space     the lines that a node's code takes: there is room for them
 --     since-right, since-end, since-size, since-code    a since node's code
 --     weak-left, weak-size, weak-code            a weak previous node's code
 --     no-code                                    other nodes have none
 --     own-is, shared-size, shared-own, shared-code      a shared node's code
 --     past-size, past-code, past-updating        the code of a node that is not shared
 -- Assumes nothing.
-use mathlib.Core.Path.{_≡_, refl, sym, ap, ap₂, subst, _∙_}
+use mathlib.Core.Path.{_≡_, refl, sym, ap, ap₂, _∙_}
 use mathlib.Core.Bool.{true, false}
 use mathlib.Core.List.{List, [], _∷_, _++_, append-assoc}
-use Prim.Native.Nat.{ℕ, _+_, _-_, _*_, _<_}
+use Prim.Native.Nat.{ℕ, _+_, _-_, _*_, _<_, _≤_}
 use native.Mathlib.Omega.{arith}
 use lib.ListN.{length, getD, drop, length-drop, length-append}
 use lib.Dec.{ltb}
 use Rattle.spec.specs.Questions.{all}
-use Rattle.spec.specs.Rule.{form32, field, nodeFields, nodeOf, sinceNode, weakPreviousNode, Table, nodeAt, isShared, operands}
-use Rattle.spec.specs.Script.{Instruction, wordFor}
+use Rattle.spec.specs.Rule.{form32, sinceNode, weakPreviousNode, Table, nodeAt, isShared, operands, isPast, Node, falseNode, testNode, impliesNode}
+use Rattle.spec.specs.Script.{Instruction, wordFor, mostLines}
+use Rattle.spec.specs.Check.{lineLength}
 use Rattle.spec.specs.Facts.{valueIs, priorIs, Facts, _∪_, one}
 use Rattle.spec.specs.Weaver.{line, sizeFrom, decideSize, decideFrom, decide, setting, update, updateSize, sharedSize, sharedCode, workSize, workCode}
-use Rattle.spec.proofs.KindLaws.{by-kind}
 use Rattle.spec.proofs.RuleLaws.{InOrder, both-lower, one-lower, rule-out}
 use Rattle.spec.proofs.WeaverLaws.{length-decide, length-setting}
-use Rattle.rule.proofs.NodeLaws.{node-at, kind-4, kind-5}
-use Rattle.layout.specs.Layout.{tableIn}
-use Rattle.layout.proofs.SizeLaws.{own-at}
-use Rattle.output.specs.Written.{storedLine, over, written}
+use Rattle.layout.proofs.SizeLaws.{nodes-few, own-at}
 use Rattle.weaver.specs.Parts.{leftLines, sinceEnd}
-use Rattle.weaver.specs.Laid.{Deciding, Updating, Working, Ending, leftIn, rightIn}
-use Rattle.output.proofs.OverLaws.{words-append, stored-line}
+use Rattle.weaver.specs.Laid.{Deciding, Updating, Working, Ending}
+use Rattle.rule.specs.Nodes.{formIn, nodeIn, tableIn}
+use Rattle.rule.proofs.NodeLaws.{node-at}
+use Rattle.facts.specs.Written.{storedLine, over, written}
+use Rattle.facts.proofs.OverLaws.{words-append, stored-line}
+use Rattle.spec.proofs.BoolLaws.{clash}
 use Rattle.weaver.proofs.DecisionLaws.{size-some}
 
 pub one-line : (w : ℕ) (i : Instruction) (F G : Facts) (o : List ℕ) → w ≡ wordFor i → G ≡ F → over (storedLine w G) o ≡ written (line i F ∷ []) o
@@ -60,7 +62,7 @@ deciding-in rule sizes shared k place onTrue onFalse out part e d =
 
 pub deciding-some : (rule sizes : List ℕ) (shared : ℕ) (k place onTrue onFalse : ℕ) (out : List ℕ) → Deciding rule sizes shared false k place onTrue onFalse out
     → 0 < decideSize (tableIn rule) k
-deciding-some rule sizes shared k place onTrue onFalse out d = size-some (tableIn rule) (rule-out form32 rule (d .sized .0) .ordered) k
+deciding-some rule sizes shared k place onTrue onFalse out d = size-some (tableIn rule) (rule-out formIn rule (d .sized .0) .ordered) k
 
 pub length-left : (t : Table) → InOrder t → (k left place set : ℕ) (F : Facts) → length (leftLines t k left place set F) ≡ 2 + decideSize t left
 unfolding leftLines
@@ -73,21 +75,32 @@ length-end t o k left right place F =
     length-append (leftLines t k left place set (F ∪ one (valueIs false) right)) (setting k k set F)
     ∙ ap₂ _+_ (length-left t o k left place set (F ∪ one (valueIs false) right)) (length-setting k k set F)
 
+-- n lines of node k's code: there are at most 64 nodes, another line of the script stands after them, and the output has room
+abbrev Space : (k n place : ℕ) (out : List ℕ) → Type 0
+Space k n place out = (k < 64) × (place + n < mostLines) × (lineLength * n ≤ length out)
+
 -- ---- the rest of a since node's code
 
-module _ (rule sizes : List ℕ) (shared : ℕ) (k place : ℕ) (out : List ℕ) (u : Ending rule sizes shared k place out) where
-  abbrev l : ℕ
-  l = leftIn rule k
-
+module _ (rule sizes : List ℕ) (shared : ℕ) (k : ℕ) {l r : ℕ} (place : ℕ) (out : List ℕ) (u : Ending rule sizes shared k l r place out) where
   abbrev n : ℕ
   n = getD sizes l 0
 
-  pub end-few : (k < 32) × (rightIn rule k < 32)
+  pub end-few : (k < 64) × (l < 64) × (r < 64)
   unfolding form32
-  end-few = let a = rule-out form32 rule (u .sized .0) .few-nodes in let i = u .isNode in let b = u .lower .1 in (omega arith, omega arith)
+  end-few =
+      let a = rule-out formIn rule (u .sized .0) .few-nodes in
+      let i = u .isNode in
+      let b = u .lower in
+      (omega arith, omega arith, omega arith)
 
   pub end-size : n ≡ decideSize (tableIn rule) l
   end-size = let b = u .lower .0 in let i = u .isNode in u .sized .1 l (omega arith)
+
+  pub end-space : (l < k) × (r < k) × Space k (2 + n + 3) place out
+  end-space =
+      let a = u .inScript in
+      let o = u .inOutput in
+      (u .lower .0, u .lower .1, (end-few .0, omega (arith, end-size), omega (arith, end-size)))
 
   pub end-left : Deciding rule sizes shared false l (place + 2) (place + 2 + n) (place + 2 + n + 2) (drop 16 out)
   end-left =
@@ -112,26 +125,17 @@ module _ (rule sizes : List ℕ) (shared : ℕ) (k place : ℕ) (out : List ℕ)
   abbrev t : Table
   t = tableIn rule
 
-  abbrev left : ℕ
-  left = leftIn rule k
-
-  abbrev right : ℕ
-  right = rightIn rule k
-
   order : InOrder t
-  order = rule-out form32 rule (u .sized .0) .ordered
+  order = rule-out formIn rule (u .sized .0) .ordered
 
-  pub node-few : k < 32
+  pub node-few : k < 64
   unfolding form32
-  node-few = let a = rule-out form32 rule (u .sized .0) .few-nodes in let i = u .isNode in omega arith
+  node-few = let a = rule-out formIn rule (u .sized .0) .few-nodes in let i = u .isNode in omega arith
 
   size-at : (j : ℕ) → j < k → getD sizes j 0 ≡ decideSize t j
   size-at j b = let i = u .isNode in u .sized .1 j (omega arith)
 
-  module _ (e : field 29 3 (getD rule k 0) ≡ 4) where
-    is-since : nodeAt t k ≡ sinceNode left right
-    is-since = node-at rule k ∙ kind-4 (nodeFields (getD rule k 0)) e
-
+  module _ {left right : ℕ} (is-since : nodeAt t k ≡ sinceNode left right) where
     pub since-lower : (left < k) × (right < k)
     since-lower = both-lower k left right (ap (λ x. all (λ j. ltb j k) (operands x)) (sym is-since) ∙ order .lower k)
 
@@ -144,6 +148,12 @@ module _ (rule sizes : List ℕ) (shared : ℕ) (k place : ℕ) (out : List ℕ)
     pub since-size : getD sizes right 0 + 2 + getD sizes left 0 + 3 ≡ updateSize t (nodeAt t k)
     unfolding updateSize
     since-size = ap₂ (λ a b. a + 2 + b + 3) right-size left-size ∙ ap (updateSize t) (sym is-since)
+
+    pub since-space : (left < k) × (right < k) × Space k (getD sizes right 0 + 2 + getD sizes left 0 + 3) place out
+    since-space =
+        let a = u .inScript in
+        let o = u .inOutput in
+        (since-lower .0, since-lower .1, (node-few, omega (arith, since-size), omega (arith, since-size)))
 
     pub since-right : Deciding rule sizes shared false right place (place + getD sizes right 0 + 2 + getD sizes left 0) (place + getD sizes right 0) out
     since-right =
@@ -161,7 +171,7 @@ module _ (rule sizes : List ℕ) (shared : ℕ) (k place : ℕ) (out : List ℕ)
           inOutput = omega (arith, since-size, right-size);
         }
 
-    pub since-end : (part : List ℕ) → length part ≡ length out - 8 * getD sizes right 0 → Ending rule sizes shared k (place + getD sizes right 0) part
+    pub since-end : (part : List ℕ) → length part ≡ length out - 8 * getD sizes right 0 → Ending rule sizes shared k left right (place + getD sizes right 0) part
     since-end part p =
         let i = u .isNode in
         let a = u .inScript in
@@ -184,10 +194,7 @@ module _ (rule sizes : List ℕ) (shared : ℕ) (k place : ℕ) (out : List ℕ)
         ∙ sym (append-assoc (decide t right place (place + decideSize t right + 2 + decideSize t left) (place + decideSize t right) F) _ _)
         ∙ ap (λ x. update t x k place F) (sym is-since)
 
-  module _ (e : field 29 3 (getD rule k 0) ≡ 5) where
-    is-weak : nodeAt t k ≡ weakPreviousNode left
-    is-weak = node-at rule k ∙ kind-5 (nodeFields (getD rule k 0)) e
-
+  module _ {left : ℕ} (is-weak : nodeAt t k ≡ weakPreviousNode left) where
     pub weak-lower : left < k
     weak-lower = one-lower k left (ap (λ x. all (λ j. ltb j k) (operands x)) (sym is-weak) ∙ order .lower k)
 
@@ -197,6 +204,12 @@ module _ (rule sizes : List ℕ) (shared : ℕ) (k place : ℕ) (out : List ℕ)
     pub weak-size : getD sizes left 0 + 3 ≡ updateSize t (nodeAt t k)
     unfolding updateSize
     weak-size = ap (λ a. a + 3) weak-left-size ∙ ap (updateSize t) (sym is-weak)
+
+    pub weak-space : (left < k) × Space k (getD sizes left 0 + 3) place out
+    weak-space =
+        let a = u .inScript in
+        let o = u .inOutput in
+        (weak-lower, (node-few, omega (arith, weak-size), omega (arith, weak-size)))
 
     pub weak-left : Deciding rule sizes shared false left place (place + getD sizes left 0) (place + getD sizes left 0 + 2) out
     weak-left =
@@ -224,15 +237,13 @@ module _ (rule sizes : List ℕ) (shared : ℕ) (k place : ℕ) (out : List ℕ)
 
 -- ---- other nodes
 
-pub no-code : (rule : List ℕ) (k place : ℕ) (F : Facts) → (field 29 3 (getD rule k 0) ≡ 4 → ⊥) → (field 29 3 (getD rule k 0) ≡ 5 → ⊥)
-    → (0 ≡ updateSize (tableIn rule) (nodeAt (tableIn rule) k)) × ([] ≡ update (tableIn rule) (nodeAt (tableIn rule) k) k place F)
+pub no-code : (t : Table) (x : Node) (k place : ℕ) (F : Facts) → isPast x ≡ false → (0 ≡ updateSize t x) × ([] ≡ update t x k place F)
 unfolding updateSize update
-no-code rule k place F a b =
-    let t = tableIn rule in
-    subst (λ x. (0 ≡ updateSize t x) × ([] ≡ update t x k place F)) (sym (node-at rule k))
-    (by-kind (nodeFields (getD rule k 0)) (λ i x. (i ≡ 4 → ⊥) → (i ≡ 5 → ⊥) → (0 ≡ updateSize t x) × ([] ≡ update t x k place F))
-    (λ u v. (refl, refl)) (λ u v. (refl, refl)) (λ u v. (refl, refl)) (λ u v. (refl, refl)) (λ u v. absurd (u refl)) (λ u v. absurd (v refl))
-    (λ u v. (refl, refl)) (λ i h u v. (refl, refl)) a b)
+no-code t falseNode k place F e = (refl, refl)
+no-code t (testNode a) k place F e = (refl, refl)
+no-code t (impliesNode l r) k place F e = (refl, refl)
+no-code t (sinceNode l r) k place F e = clash refl e
+no-code t (weakPreviousNode l) k place F e = clash refl e
 
 -- ---- any node
 
@@ -240,13 +251,23 @@ module _ (rule sizes : List ℕ) (shared : ℕ) (k place : ℕ) (out : List ℕ)
   abbrev table : Table
   table = tableIn rule
 
-  module _ (s : isShared table k ≡ true) (n : ℕ) (e : n ≡ sizeFrom (λ j. getD sizes j 0) (nodeOf (nodeFields (getD rule k 0))) 0) where
+  -- n lines decide node k, which is read as x
+  module _ (s : isShared table k ≡ true) {n : ℕ} {x : Node} (e : n ≡ sizeFrom (λ j. getD sizes j 0) x 0) (d : x ≡ nodeIn (getD rule k 0)) where
     pub own-is : n ≡ sizeFrom (decideSize table) (nodeAt table k) k
-    own-is = let i = u .isNode in e ∙ own-at rule sizes k (u .sized .0) (λ j l. u .sized .1 j (omega arith))
+    own-is =
+        let i = u .isNode in
+        e ∙ ap (λ y. sizeFrom (λ j. getD sizes j 0) y 0) (d ∙ sym (node-at rule k)) ∙ own-at rule sizes k (u .sized .0) (λ j l. u .sized .1 j (omega arith))
 
     pub shared-size : n + 3 ≡ workSize table k
     unfolding workSize sharedSize
     shared-size = rw s (omega (arith, own-is))
+
+    pub shared-space : Space k (n + 3) place out
+    shared-space =
+        let a = u .inScript in
+        let o = u .inOutput in
+        let i = u .isNode in
+        (omega (arith, nodes-few rule (u .sized .0)), omega (arith, shared-size), omega (arith, shared-size))
 
     pub shared-own : Deciding rule sizes shared true k place (place + n) (place + n + 2) out
     shared-own =

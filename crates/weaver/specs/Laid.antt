@@ -3,13 +3,14 @@ use mathlib.Core.Path.{_≡_}
 use mathlib.Core.Bool.{Bool}
 use mathlib.Core.List.{List}
 use Prim.Native.Nat.{ℕ, _+_, _*_, _<_, _≤_}
-use lib.ListN.{length, getD}
-use Rattle.spec.specs.Questions.{count, passed}
-use Rattle.spec.specs.Rule.{form32, field, nodeAt, lastNode, isPast}
+use lib.ListN.{length}
+use Rattle.spec.specs.Questions.{count}
+use Rattle.spec.specs.Rule.{nodeAt, lastNode, isPast}
 use Rattle.spec.specs.Script.{mostLines}
 use Rattle.spec.specs.Check.{lineLength}
-use Rattle.spec.specs.Weaver.{decideSize, updateSize, workSize, updatesSize, blockSize, checkWeaving}
-use Rattle.layout.specs.Layout.{tableIn, Shared, Sized, Started}
+use Rattle.spec.specs.Weaver.{decideSize, updateSize, workSize, updatesSize, blockSize}
+use Rattle.rule.specs.Nodes.{tableIn}
+use Rattle.layout.specs.Layout.{Shared, Sized, Weavable, Started}
 use Rattle.sets.specs.Sets.{setOf}
 use Rattle.weaver.specs.Parts.{pastNodes, decidingSize}
 
@@ -39,21 +40,14 @@ pub record Working (rule sizes : List ℕ) (shared : ℕ) (k place : ℕ) (out :
   pub inScript : place + workSize (tableIn rule) k < mostLines
   pub inOutput : lineLength * workSize (tableIn rule) k ≤ length out
 
--- the operands of node k, from its word
-abbrev pub leftIn : (rule : List ℕ) → ℕ → ℕ
-leftIn rule k = field 6 5 (getD rule k 0)
-
-abbrev pub rightIn : (rule : List ℕ) → ℕ → ℕ
-rightIn rule k = field 1 5 (getD rule k 0)
-
 -- the rest of a since node's code, after deciding right, can be written at `place`, before another line
-pub record Ending (rule sizes : List ℕ) (shared : ℕ) (k place : ℕ) (out : List ℕ) : Type 0 where
+pub record Ending (rule sizes : List ℕ) (shared : ℕ) (k left right place : ℕ) (out : List ℕ) : Type 0 where
   pub sized : Sized rule sizes
   pub sharedIs : Shared rule shared
   pub isNode : k < length rule
-  pub lower : (leftIn rule k < k) × (rightIn rule k < k)
-  pub inScript : place + 2 + decideSize (tableIn rule) (leftIn rule k) + 3 < mostLines
-  pub inOutput : lineLength * (2 + decideSize (tableIn rule) (leftIn rule k) + 3) ≤ length out
+  pub lower : (left < k) × (right < k)
+  pub inScript : place + 2 + decideSize (tableIn rule) left + 3 < mostLines
+  pub inOutput : lineLength * (2 + decideSize (tableIn rule) left + 3) ≤ length out
 
 -- the code of all nodes with a work bit can be written at `place`, before another line
 pub record Updatable (rule sizes : List ℕ) (shared : ℕ) (place : ℕ) (out : List ℕ) : Type 0 where
@@ -82,7 +76,7 @@ pub record Laying (rule bare sizes : List ℕ) (size shared past : ℕ) : Type 0
   pub sized : Sized rule sizes
   pub sharedIs : Shared rule shared
   pub pastIs : setOf past ≡ pastNodes (tableIn rule)
-  pub weavable : checkWeaving form32 rule bare ≡ passed tt
+  pub weavable : Weavable rule bare
   pub blockIs : size ≡ blockSize (tableIn rule)
 
 -- and where bare lines start

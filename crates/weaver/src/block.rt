@@ -1,11 +1,11 @@
 // The block that decides the rule before a present.
 use crate::decision::put_decision;
-use crate::line::code;
 use crate::update::put_work;
-use checker::facts::Facts;
-use checker::facts::learn_value;
-use output::put_line;
+use facts::Facts;
+use facts::learn_value;
+use facts::line::put_line;
 use rule::node::past_at;
+use script::instruction::encode;
 use sets::has;
 use sets::union;
 use sets::with_if;
@@ -20,10 +20,10 @@ ghost use Rattle.spec.specs.Script.{keep};
 ghost use Rattle.spec.specs.Facts.{keptIsPrior, workIsNext, workIsPrior, _∪_, only};
 ghost use Rattle.spec.specs.Weaver.{line, updatesSize, updates, keeps, blockSize, block};
 ghost use Rattle.sets.specs.Sets.{setOf, capacity};
-ghost use Rattle.checker.specs.FactSets.{factsOf};
-ghost use Rattle.output.specs.Written.{written};
+ghost use Rattle.facts.specs.FactSets.{factsOf};
+ghost use Rattle.facts.specs.Written.{written};
 ghost use Rattle.weaver.specs.Parts.{pastNodes, presentLines, guardLines};
-ghost use Rattle.layout.specs.Layout.{tableIn};
+ghost use Rattle.rule.specs.Nodes.{tableIn};
 ghost use Rattle.weaver.specs.Laid.{Updatable, Guarding, Blocking};
 
 // The facts M of the nodes in m, W of those in w and C of those in c.
@@ -74,7 +74,7 @@ fn put_keep(rule: &[u32], k: usize, x: Facts, out: &mut [u32]) -> usize
         × (now (out .exit) ≡ written (cond (isPast (nodeAt (tableIn (now (rule .entry))) k)) (line (keep k) (factsOf x) ∷ []) []) (now (out .entry))) ⌝ }
 {
     if past_at(rule, k) {
-        put_line(code(12, 0, k as u32, 0), x, out);
+        put_line(encode(12, 0, k, 0), x, out);
         1
     } else {
         0
@@ -103,7 +103,7 @@ fn put_present(rule: &[u32], past: u64, x: Facts, out: &mut [u32])
     ensures { λ r. ⌜ now (out .exit) ≡ written (presentLines (tableIn (now (rule .entry))) (factsOf x)) (now (out .entry)) ⌝ }
 {
     put_line(
-        code(8, 0, 0, 0),
+        encode(8, 0, 0, 0),
         learn_value(x, rule.len() - 1, true, false),
         out,
     );

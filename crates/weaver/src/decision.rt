@@ -1,24 +1,26 @@
 // Deciding a node towards two places.
-use crate::line::code;
 use crate::line::put_two;
-use checker::facts::Facts;
-use checker::facts::learn_value;
-use output::put_line;
+use facts::Facts;
+use facts::learn_value;
+use facts::line::put_line;
+use rule::node::Node;
+use rule::node::read_node;
+use script::instruction::encode;
 use sets::has;
 ghost use mathlib.Core.Path.{_≡_};
 ghost use mathlib.Core.Bool.{false};
 ghost use mathlib.Core.List.{_++_};
 ghost use Prim.Native.Nat.{ℕ, _*_, _≤_, _<_};
 ghost use lib.ListN.{length};
-ghost use Rattle.spec.specs.Rule.{field, nodeFields, nodeOf, Table};
+ghost use Rattle.spec.specs.Rule.{Table};
 ghost use Rattle.spec.specs.Script.{goto, wordFor};
 ghost use Rattle.spec.specs.Facts.{valueIs, _∪_, one};
 ghost use Rattle.spec.specs.Check.{lineLength};
 ghost use Rattle.spec.specs.Weaver.{sizeFrom, Decision, decideFrom};
 ghost use Rattle.sets.specs.Sets.{capacity};
-ghost use Rattle.checker.specs.FactSets.{factsOf};
-ghost use Rattle.output.specs.Written.{storedLine, over, written};
-ghost use Rattle.layout.specs.Layout.{tableIn};
+ghost use Rattle.facts.specs.FactSets.{factsOf};
+ghost use Rattle.facts.specs.Written.{storedLine, over, written};
+ghost use Rattle.rule.specs.Nodes.{tableIn, nodeRead, NodeSmall, isImplies};
 ghost use Rattle.weaver.specs.Parts.{deciding};
 ghost use Rattle.weaver.specs.Laid.{Deciding};
 
@@ -30,27 +32,49 @@ fn put_leaf(branch: u32, k: usize, on_false: usize, x: Facts, out: &mut [u32])
     put_two(
         branch,
         x,
-        code(7, 0, 0, on_false),
+        encode(7, 0, 0, on_false),
         learn_value(x, k, false, true),
         out,
     );
 }
 
-// The code for a node other than implies, whose word this is.
-fn put_simple(word: u32, k: usize, on_true: usize, on_false: usize, x: Facts, out: &mut [u32])
-    requires { ⌜ (field 29 3 word ≡ 3 → ⊥) × (k < capacity) × («on_true» < 1024) × («on_false» < 1024) × (lineLength * sizeFrom (λ j. 0) (nodeOf (nodeFields word)) k ≤ length (now out)) ⌝ }
-    ensures { λ r. ⌜ ((t : Table) (decided : ℕ → Decision) (place : ℕ) → now (out .exit) ≡ written (decideFrom t decided (nodeOf (nodeFields word)) k place «on_true» «on_false» (factsOf x)) (now (out .entry))) ⌝ }
+// The code for a node that is no implies; what an implies puts is put_decision's.
+fn put_simple(node: Node, k: usize, on_true: usize, on_false: usize, x: Facts, out: &mut [u32])
+    requires { ⌜ NodeSmall (nodeRead node) × (isImplies (nodeRead node) ≡ false) × (k < capacity) × («on_true» < 1024) × («on_false» < 1024) × (lineLength * sizeFrom (λ j. 0) (nodeRead node) k ≤ length (now out)) ⌝ }
+    ensures { λ r. ⌜ ((t : Table) (decided : ℕ → Decision) (place : ℕ) → now (out .exit) ≡ written (decideFrom t decided (nodeRead node) k place «on_true» «on_false» (factsOf x)) (now (out .entry))) ⌝ }
 {
-    let kind = word / 536870912 % 8;
-    let r = word / 33554432 % 16;
-    let c = word / 2048 % 16384;
-    match kind {
-        1 => put_leaf(code(5, r, c, on_true), k, on_false, x, out),
-        2 => put_leaf(code(6, r, c, on_true), k, on_false, x, out),
-        4 => put_leaf(code(11, 0, k as u32, on_true), k, on_false, x, out),
-        5 => put_leaf(code(10, 0, k as u32, on_true), k, on_false, x, out),
-        6 => put_leaf(code(13, r, c, on_true), k, on_false, x, out),
-        _ => put_line(code(7, 0, 0, on_false), x, out),
+    match node {
+        Node::False => put_line(encode(7, 0, 0, on_false), x, out),
+        Node::Equal { register, constant } => {
+            put_leaf(
+                encode(5, register, constant as usize, on_true),
+                k,
+                on_false,
+                x,
+                out,
+            )
+        }
+        Node::Below { register, constant } => {
+            put_leaf(
+                encode(6, register, constant as usize, on_true),
+                k,
+                on_false,
+                x,
+                out,
+            )
+        }
+        Node::Implies { left: _, right: _ } => {}
+        Node::Since { left: _, right: _ } => put_leaf(
+            encode(11, 0, k, on_true),
+            k,
+            on_false,
+            x,
+            out,
+        ),
+        Node::WeakPrevious { left: _ } => put_leaf(encode(10, 0, k, on_true), k, on_false, x, out),
+        Node::EqualRegisters { register, other } => {
+            put_leaf(encode(13, register, other, on_true), k, on_false, x, out)
+        }
     }
 }
 
@@ -71,12 +95,12 @@ pub(crate) fn put_decision(
     requires { ⌜ Deciding (now rule) (now sizes) shared own k place «on_true» «on_false» (now out) ⌝ }
     ensures { λ r. ⌜ now (out .exit) ≡ written (deciding own (tableIn (now (rule .entry))) k place «on_true» «on_false» (factsOf x)) (now (out .entry)) ⌝ }
 {
-    let word = rule[k];
     if has(shared, k) & !own {
-        put_leaf(code(11, 0, k as u32, on_true), k, on_false, x, out);
-    } else if word / 536870912 % 8 == 3 {
-        let left = (word / 64 % 32) as usize;
-        let right = (word / 2 % 32) as usize;
+        put_leaf(encode(11, 0, k, on_true), k, on_false, x, out);
+        return;
+    }
+    let node = read_node(rule[k]);
+    if let Node::Implies { left, right } = node {
         let n = sizes[left] as usize;
         put_decision(
             rule,
@@ -104,6 +128,6 @@ pub(crate) fn put_decision(
             &mut out[8 * n..],
         );
     } else {
-        put_simple(word, k, on_true, on_false, x, out);
+        put_simple(node, k, on_true, on_false, x, out);
     }
 }

@@ -1,9 +1,10 @@
 // A bare script, line after line.
 use crate::block::noted;
 use crate::block::put_block;
+use facts::line::put_line;
 use layout::mark_starts;
 use layout::moved_word;
-use output::put_line;
+use script::instruction::decode;
 use script::line::is_present;
 ghost use mathlib.Core.Path.{_≡_};
 ghost use Prim.Native.Nat.{_*_, _≤_, _<_};
@@ -11,8 +12,8 @@ ghost use lib.ListN.{length};
 ghost use Rattle.spec.specs.Script.{bareCode, instructionAt};
 ghost use Rattle.spec.specs.Weaver as spec;
 ghost use Rattle.spec.specs.Weaver.{lineSize, startOf, weaveLine, wovenCount};
-ghost use Rattle.layout.specs.Layout.{tableIn};
-ghost use Rattle.output.specs.Written.{written};
+ghost use Rattle.rule.specs.Nodes.{tableIn};
+ghost use Rattle.facts.specs.Written.{written};
 ghost use Rattle.weaver.specs.Laid.{Laying, Weaving};
 
 // Bare line l, which starts at `place`. Hands back how many lines it becomes.
@@ -33,7 +34,7 @@ fn put_woven(
     ensures { λ r. ⌜ (r ≡ lineSize (tableIn (now (rule .entry))) (instructionAt (bareCode (now (bare .entry))) l))
         × (now (out .exit) ≡ written (weaveLine (tableIn (now (rule .entry))) (bareCode (now (bare .entry))) place (instructionAt (bareCode (now (bare .entry))) l)) (now (out .entry))) ⌝ }
 {
-    if is_present(bare[l]) {
+    if is_present(decode(bare[l])) {
         put_block(rule, sizes, shared, past, size, place, out);
         size
     } else {

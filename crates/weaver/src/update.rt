@@ -1,25 +1,27 @@
 // The code of a node with a work bit: a past node's next prior, or a shared node's value, becomes that bit.
 use crate::decision::put_decision;
-use crate::line::code;
 use crate::line::put_two;
 use crate::line::with_work;
-use checker::facts::Facts;
-use checker::facts::learn_prior;
-use checker::facts::learn_value;
+use facts::Facts;
+use facts::learn_prior;
+use facts::learn_value;
+use facts::line::put_line;
 use layout::node_size;
-use output::put_line;
+use rule::node::Node;
+use rule::node::read_node;
+use script::instruction::encode;
 use sets::has;
 ghost use mathlib.Core.Path.{_≡_};
 ghost use mathlib.Core.Bool.{true, false};
 ghost use Prim.Native.Nat.{_+_, _≤_, _<_};
-ghost use lib.ListN.{length, getD, drop};
-ghost use Rattle.spec.specs.Rule.{field, nodeAt, isShared};
+ghost use lib.ListN.{length, drop};
+ghost use Rattle.spec.specs.Rule.{sinceNode, weakPreviousNode, nodeAt, isShared};
 ghost use Rattle.spec.specs.Weaver.{setting, update, updateSize, workCode, workSize};
 ghost use Rattle.sets.specs.Sets.{capacity};
-ghost use Rattle.checker.specs.FactSets.{factsOf};
-ghost use Rattle.output.specs.Written.{written};
-ghost use Rattle.layout.specs.Layout.{tableIn};
-ghost use Rattle.weaver.specs.Laid.{leftIn, rightIn, Deciding, Updating, Ending, Working};
+ghost use Rattle.facts.specs.FactSets.{factsOf};
+ghost use Rattle.facts.specs.Written.{written};
+ghost use Rattle.rule.specs.Nodes.{tableIn};
+ghost use Rattle.weaver.specs.Laid.{Deciding, Updating, Ending, Working};
 ghost use Rattle.weaver.specs.Parts.{leftLines, sinceEnd};
 
 // Set 1, go past, set 0: the value of node v becomes the work bit of node k.
@@ -29,9 +31,9 @@ fn put_setting(k: usize, v: usize, place: usize, x: Facts, out: &mut [u32])
 {
     let y = learn_value(x, v, true, false);
     let z = with_work(x, k, true);
-    put_two(code(9, 1, k as u32, 0), y, code(7, 0, 0, place + 3), z, out);
+    put_two(encode(9, 1, k, 0), y, encode(7, 0, 0, place + 3), z, out);
     put_line(
-        code(9, 0, k as u32, 0),
+        encode(9, 0, k, 0),
         learn_value(x, v, false, true),
         &mut out[16..],
     );
@@ -54,9 +56,9 @@ fn put_left(
 {
     let y = learn_prior(x, k, false, true);
     put_two(
-        code(10, 0, k as u32, place + 2),
+        encode(10, 0, k, place + 2),
         x,
-        code(7, 0, 0, set_at + 2),
+        encode(7, 0, 0, set_at + 2),
         y,
         out,
     );
@@ -81,16 +83,15 @@ fn put_since_end(
     sizes: &[u16; 64],
     shared: u64,
     k: usize,
+    left: usize,
+    right: usize,
     place: usize,
     x: Facts,
     out: &mut [u32],
 )
-    requires { ⌜ Ending (now rule) (now sizes) shared k place (now out) ⌝ }
-    ensures { λ r. ⌜ now (out .exit) ≡ written (sinceEnd (tableIn (now (rule .entry))) k (leftIn (now (rule .entry)) k) (rightIn (now (rule .entry)) k) place (factsOf x)) (now (out .entry)) ⌝ }
+    requires { ⌜ Ending (now rule) (now sizes) shared k left right place (now out) ⌝ }
+    ensures { λ r. ⌜ now (out .exit) ≡ written (sinceEnd (tableIn (now (rule .entry))) k left right place (factsOf x)) (now (out .entry)) ⌝ }
 {
-    let word = rule[k];
-    let left = (word / 64 % 32) as usize;
-    let right = (word / 2 % 32) as usize;
     let l = sizes[left] as usize;
     let set_at = place + 2 + l;
     let y = learn_value(x, right, false, true);
@@ -104,17 +105,16 @@ fn put_since(
     sizes: &[u16; 64],
     shared: u64,
     k: usize,
+    left: usize,
+    right: usize,
     place: usize,
     x: Facts,
     out: &mut [u32],
 ) -> usize
-    requires { ⌜ Updating (now rule) (now sizes) shared k place (now out) × (field 29 3 (getD (now rule) k 0) ≡ 4) ⌝ }
+    requires { ⌜ Updating (now rule) (now sizes) shared k place (now out) × (nodeAt (tableIn (now rule)) k ≡ sinceNode left right) ⌝ }
     ensures { λ r. ⌜ (r ≡ updateSize (tableIn (now (rule .entry))) (nodeAt (tableIn (now (rule .entry))) k))
         × (now (out .exit) ≡ written (update (tableIn (now (rule .entry))) (nodeAt (tableIn (now (rule .entry))) k) k place (factsOf x)) (now (out .entry))) ⌝ }
 {
-    let word = rule[k];
-    let left = (word / 64 % 32) as usize;
-    let right = (word / 2 % 32) as usize;
     let r = sizes[right] as usize;
     let l = sizes[left] as usize;
     let test_at = place + r;
@@ -130,7 +130,17 @@ fn put_since(
         x,
         out,
     );
-    put_since_end(rule, sizes, shared, k, test_at, x, &mut out[8 * r..]);
+    put_since_end(
+        rule,
+        sizes,
+        shared,
+        k,
+        left,
+        right,
+        test_at,
+        x,
+        &mut out[8 * r..],
+    );
     r + 2 + l + 3
 }
 
@@ -140,15 +150,15 @@ fn put_weak_previous(
     sizes: &[u16; 64],
     shared: u64,
     k: usize,
+    left: usize,
     place: usize,
     x: Facts,
     out: &mut [u32],
 ) -> usize
-    requires { ⌜ Updating (now rule) (now sizes) shared k place (now out) × (field 29 3 (getD (now rule) k 0) ≡ 5) ⌝ }
+    requires { ⌜ Updating (now rule) (now sizes) shared k place (now out) × (nodeAt (tableIn (now rule)) k ≡ weakPreviousNode left) ⌝ }
     ensures { λ r. ⌜ (r ≡ updateSize (tableIn (now (rule .entry))) (nodeAt (tableIn (now (rule .entry))) k))
         × (now (out .exit) ≡ written (update (tableIn (now (rule .entry))) (nodeAt (tableIn (now (rule .entry))) k) k place (factsOf x)) (now (out .entry))) ⌝ }
 {
-    let left = (rule[k] / 64 % 32) as usize;
     let l = sizes[left] as usize;
     let set_at = place + l;
     put_decision(
@@ -181,10 +191,22 @@ fn put_update(
     ensures { λ r. ⌜ (r ≡ updateSize (tableIn (now (rule .entry))) (nodeAt (tableIn (now (rule .entry))) k))
         × (now (out .exit) ≡ written (update (tableIn (now (rule .entry))) (nodeAt (tableIn (now (rule .entry))) k) k place (factsOf x)) (now (out .entry))) ⌝ }
 {
-    let kind = rule[k] / 536870912 % 8;
-    match kind {
-        4 => put_since(rule, sizes, shared, k, place, x, out),
-        5 => put_weak_previous(rule, sizes, shared, k, place, x, out),
+    let node = read_node(rule[k]);
+    match node {
+        Node::Since { left, right } => put_since(
+            rule,
+            sizes,
+            shared,
+            k,
+            left,
+            right,
+            place,
+            x,
+            out,
+        ),
+        Node::WeakPrevious { left } => {
+            put_weak_previous(rule, sizes, shared, k, left, place, x, out)
+        }
         _ => 0,
     }
 }
@@ -203,7 +225,7 @@ fn put_shared(
     ensures { λ r. ⌜ (r ≡ workSize (tableIn (now (rule .entry))) k)
         × (now (out .exit) ≡ written (workCode (tableIn (now (rule .entry))) k place (factsOf x)) (now (out .entry))) ⌝ }
 {
-    let n = node_size(sizes, rule[k]) as usize;
+    let n = node_size(sizes, read_node(rule[k])) as usize;
     let set_at = place + n;
     put_decision(
         rule,

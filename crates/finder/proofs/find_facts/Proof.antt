@@ -2,10 +2,10 @@
 use mathlib.Core.Path.{sym, ap, _∙_}
 use native.Mathlib.Omega.{arith}
 use lib.ListN.{length}
+use Rattle.facts.specs.Written.{over}
 use borrow.Author.Needs.{needs}
 use Rattle.rule.specs.Answers.{answerOf}
 use Rattle.finder.specs.Rows.{Asked}
-use Rattle.output.specs.Written.{over}
 use Rattle.finder.proofs.SearchLaws.{few-lines, room-all}
 use Rattle.finder.proofs.FoundLaws.{seven-no, nineteen-no, room-no, all-yes, kept-found, count-found}
 use Rattle.finder.proofs.find_facts.Statement.{statement}

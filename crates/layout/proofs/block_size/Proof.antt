@@ -3,11 +3,11 @@ use mathlib.Core.Path.{_≡_, ap, _∙_}
 use Prim.Native.Nat.{_+_, _-_, _≤_}
 use lib.ListN.{length, getD}
 use native.Mathlib.Omega.{arith}
+use Rattle.rule.specs.Nodes.{tableIn, formIn}
 use borrow.Author.Needs.{needs}
-use Rattle.spec.specs.Rule.{form32, lastNode}
+use Rattle.spec.specs.Rule.{lastNode}
 use Rattle.spec.specs.Weaver.{decideSize}
 use Rattle.spec.proofs.RuleLaws.{length-table, rule-out}
-use Rattle.layout.specs.Layout.{tableIn}
 use Rattle.layout.proofs.SizeLaws.{countedTo, counted-none, counted-next, counted-all, counted-few, nodes-few, node-few}
 use Rattle.layout.proofs.block_size.Statement.{statement}
 use Rattle.layout.proofs.block_size.Tie as tie
@@ -48,7 +48,7 @@ loop-again c = let l = c .before .before .loop in
 
 sub-result : tie.Need-sub-result Inv-loop μ-loop
 sub-result c = let s = c .before .before .before in
-    let e = rule-out form32 (s .args .rule .now) (s .pre .0 .0) .some-node in
+    let e = rule-out formIn (s .args .rule .now) (s .pre .0 .0) .some-node in
     omega arith
 
 mul-result : tie.Need-mul-result Inv-loop μ-loop
@@ -56,7 +56,7 @@ mul-result c = search needs
 
 element-copy-out-result : tie.Need-element-copy-out-result Inv-loop μ-loop
 element-copy-out-result c = let s = c .before .before .before in
-    let e = rule-out form32 (s .args .rule .now) (s .pre .0 .0) .some-node in
+    let e = rule-out formIn (s .args .rule .now) (s .pre .0 .0) .some-node in
     let few = c .before .loop .inv .1 in
     omega arith
 
@@ -64,7 +64,7 @@ cast-result : tie.Need-cast-result Inv-loop μ-loop
 cast-result c = let s = c .before .before .before .before in
     let rule = s .args .rule .now in
     let l = c .before .before .loop in
-    let e = rule-out form32 rule (s .pre .0 .0) .some-node in
+    let e = rule-out formIn rule (s .pre .0 .0) .some-node in
     let size : getD (s .args .sizes .now) (length rule - 1) 0 ≤ 481 =
     omega (arith, s .pre .0 .1 (length rule - 1) (omega arith), node-few rule (s .pre .0 .0) (length rule - 1) (omega arith)) in
     omega arith
@@ -73,7 +73,7 @@ add-result : tie.Need-add-result Inv-loop μ-loop
 add-result c = let s = c .before .before .before .before in
     let rule = s .args .rule .now in
     let l = c .before .before .loop in
-    let e = rule-out form32 rule (s .pre .0 .0) .some-node in
+    let e = rule-out formIn rule (s .pre .0 .0) .some-node in
     let size : getD (s .args .sizes .now) (length rule - 1) 0 ≤ 481 =
     omega (arith, s .pre .0 .1 (length rule - 1) (omega arith), node-few rule (s .pre .0 .0) (length rule - 1) (omega arith)) in
     let few = counted-few rule (s .pre .0 .0) (l .k) (l .inv .0) in
@@ -83,7 +83,7 @@ add-result-2 : tie.Need-add-result-2 Inv-loop μ-loop
 add-result-2 c = let s = c .before .before .before .before in
     let rule = s .args .rule .now in
     let l = c .before .before .loop in
-    let e = rule-out form32 rule (s .pre .0 .0) .some-node in
+    let e = rule-out formIn rule (s .pre .0 .0) .some-node in
     let size : getD (s .args .sizes .now) (length rule - 1) 0 ≤ 481 =
     omega (arith, s .pre .0 .1 (length rule - 1) (omega arith), node-few rule (s .pre .0 .0) (length rule - 1) (omega arith)) in
     let few = counted-few rule (s .pre .0 .0) (l .k) (l .inv .0) in
@@ -93,8 +93,8 @@ returns : tie.Need-returns Inv-loop μ-loop
 returns c = let s = c .before .before .before .before in
     let rule = s .args .rule .now in
     let l = c .before .before .loop in
-    let e = rule-out form32 rule (s .pre .0 .0) .some-node in
-    let n = length-table form32 rule in
+    let e = rule-out formIn rule (s .pre .0 .0) .some-node in
+    let n = length-table formIn rule in
     let k : l .k ≡ length (tableIn rule) = (let a = l .inv .0 in let b = c .before .loop-test .left in omega arith) in
     let last : lastNode (tableIn rule) ≡ length rule - 1 = omega arith in
     let size : getD (s .args .sizes .now) (length rule - 1) 0 ≡ decideSize (tableIn rule) (lastNode (tableIn rule)) =

@@ -1,11 +1,16 @@
 -- `layout::fill_sizes` meets its contract. The loop keeps: the sizes of the nodes below k stand in the table (`SizeLaws.SizedTo`).
 -- Assumes nothing.
-use mathlib.Core.Path.{_≡_, refl, _∙_}
+use Rattle.rule.proofs.NodeLaws.{node-at}
+use Rattle.sets.specs.Sets.{setOf}
+use Rattle.spec.specs.Weaver.{sizeFrom}
+use lib.ListN.{getD}
+use mathlib.Core.Bool.{cond}
+use mathlib.Core.Path.{_≡_, refl, _∙_, ap, sym}
 use Prim.Native.Nat.{_-_, _≤_, _<_}
 use lib.ListN.{length, length-set}
 use native.Mathlib.Omega.{arith}
+use Rattle.rule.specs.Nodes.{tableIn}
 use borrow.Author.Needs.{needs}
-use Rattle.layout.specs.Layout.{tableIn}
 use Rattle.layout.proofs.SizeLaws.{SizedTo, own-at, size-at, sized-next, nodes-few, own-few}
 use Rattle.layout.proofs.fill_sizes.Statement.{statement}
 use Rattle.layout.proofs.fill_sizes.Tie as tie
@@ -17,22 +22,26 @@ abbrev μ-loop : tie.MeasureT-loop
 μ-loop rule shared sizes₀ k₀ sizes k = length rule - k
 
 loop-holds : tie.Need-loop-holds Inv-loop μ-loop
-loop-holds c = let s = c .before .before in
-    (search needs, nodes-few (s .args .rule .now) (s .pre .0), refl, λ j l. absurd (omega arith))
+loop-holds c = (search needs, nodes-few (c .before .before .args .rule .now) (c .before .before .pre .0), refl, λ j l. absurd (omega arith))
 
-mul-mention-size : tie.Need-mul-mention-size Inv-loop μ-loop
-mul-mention-size c = search needs
+mul-read-node : tie.Need-mul-read-node Inv-loop μ-loop
+mul-read-node c = search needs
 
-shared-slice-read-mention-size : tie.Need-shared-slice-read-mention-size Inv-loop μ-loop
-shared-slice-read-mention-size c = search needs
+shared-slice-read-read-node : tie.Need-shared-slice-read-read-node Inv-loop μ-loop
+shared-slice-read-read-node c = search needs
+
+read-node-requires : tie.Need-read-node-requires Inv-loop μ-loop
+read-node-requires c κs = search needs
 
 mention-size-requires : tie.Need-mention-size-requires Inv-loop μ-loop
-mention-size-requires c κs = let start = c .before .before .before .before .before .before in
-    let rule = start .args .rule .now in
-    let l = c .before .before .before .loop in
-    let size = own-at rule (l .sizes) (l .k) (start .pre .0) (l .inv .3) in
-    let few = own-few rule (start .pre .0) (l .k) (c .before .before .loop-test .taken) in
-    (omega arith, omega arith)
+mention-size-requires c κs =
+    let rule = c .before .before .before .before .before .before .before .args .rule .now in
+    let l = c .before .before .before .before .loop in
+    let e = c .read-node .ensures .0 ∙ sym (node-at rule (l .k)) in
+    let same = ap (λ x. sizeFrom (λ j. getD (l .sizes) j 0) x 0) e in
+    let size = own-at rule (l .sizes) (l .k) (c .before .before .before .before .before .before .before .pre .0) (l .inv .3) in
+    let few = own-few rule (c .before .before .before .before .before .before .before .pre .0) (l .k) (c .before .before .before .loop-test .taken) in
+    (omega arith, c .read-node .ensures .1, omega arith)
 
 mul-sizes : tie.Need-mul-sizes Inv-loop μ-loop
 mul-sizes c = search needs
@@ -47,12 +56,13 @@ loop-less : tie.Need-loop-less Inv-loop μ-loop
 loop-less c = search needs
 
 loop-again : tie.Need-loop-again Inv-loop μ-loop
-loop-again c = let start = c .before .before .before .before .before .before .before in
-    let rule = start .args .rule .now in
-    let l = c .before .before .before .before .loop in
+loop-again c =
+    let rule = c .before .before .before .before .before .before .before .before .args .rule .now in
+    let l = c .before .before .before .before .before .loop in
     let inside : l .k < length (l .sizes) = omega arith in
-    let size = c .mention-size .ensures
-    ∙ size-at rule (l .sizes) (l .k) _ (start .pre .0) (l .inv .3) (start .pre .1) in (
+    let e = c .before .read-node .ensures .0 ∙ sym (node-at rule (l .k)) in
+    let size = c .mention-size .ensures ∙ ap (λ x. cond (setOf (c .before .before .before .before .before .before .before .before .args .shared) (l .k)) 2 (sizeFrom (λ j. getD (l .sizes) j 0) x 0)) e
+    ∙ size-at rule (l .sizes) (l .k) _ (c .before .before .before .before .before .before .before .before .pre .0) (l .inv .3) (c .before .before .before .before .before .before .before .before .pre .1) in (
       search needs,
       search needs,
       length-set (l .sizes) (l .k) (c .mention-size .result) ∙ l .inv .2,
@@ -72,8 +82,9 @@ fill-sizes-spec =
     Inv-loop
     μ-loop
     loop-holds
-    mul-mention-size
-    shared-slice-read-mention-size
+    mul-read-node
+    shared-slice-read-read-node
+    read-node-requires
     mention-size-requires
     mul-sizes
     slice-write-sizes

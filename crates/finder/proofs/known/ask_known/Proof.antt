@@ -1,4 +1,5 @@
 -- `finder::known::ask_known` meets its contract. The loop keeps: the lines below l pass (`QuestionLaws.Scanned`). Assumes nothing.
+use Rattle.rule.specs.Nodes.{tableIn, formIn}
 use borrow.Author.Needs.{needs}
 use Prim.Native.Nat.{ℕ, _-_}
 use mathlib.Core.Path.{sym, _∙_}
@@ -6,16 +7,14 @@ use mathlib.Core.Bool.{Bool}
 use mathlib.Core.List.{List}
 use lib.ListN.{length}
 use borrow.Author.Tests.{not-true, not-false}
-use Rattle.spec.specs.Rule.{form32}
 use Rattle.spec.specs.Check.{lineAt, presentKnown}
 use Rattle.largest.specs.Largest.{foundLines, question19}
 use Rattle.spec.proofs.QuestionLaws.{Scanned, scanned-start, scanned-next, scan-no, scan-yes}
-use Rattle.finder.specs.Rows.{tableIn}
 use Rattle.finder.proofs.known.ask_known.Statement.{statement}
 use Rattle.finder.proofs.known.ask_known.Tie as tie
 
 abbrev ok : (rule code : List ℕ) → ℕ → Bool
-ok rule code l = presentKnown (tableIn rule) (lineAt (foundLines form32 rule code) l)
+ok rule code l = presentKnown (tableIn rule) (lineAt (foundLines formIn rule code) l)
 
 abbrev Inv-loop : tie.InvT-loop
 Inv-loop rule code notes l₀ l = Scanned (ok rule code) (length code) l

@@ -1,10 +1,10 @@
 -- `finder::lines::put_lines` meets its contract. The loop keeps: the first l lines are written and their facts counted (`FoundLaws.Writing`). Assumes nothing.
+use Rattle.facts.proofs.OverLaws.{part-length}
 use borrow.Author.Needs.{needs}
 use Prim.Native.Nat.{_-_, _*_, _≤_}
 use mathlib.Core.Path.{_≡_}
 use native.Mathlib.Omega.{arith}
 use lib.ListN.{length}
-use Rattle.output.proofs.OverLaws.{part-length}
 use Rattle.finder.proofs.FoundLaws.{Writing, writing-start, writing-next}
 use Rattle.finder.proofs.lines.put_lines.Statement.{statement}
 use Rattle.finder.proofs.lines.put_lines.Tie as tie

@@ -1,10 +1,10 @@
 -- `finder::search::prepare` meets its contract. The loop keeps: the first l lines have all that belongs, and a flag (`SearchLaws.Prepared`). Assumes nothing.
+use Rattle.facts.specs.FactSets.{factsOf}
 use borrow.Author.Needs.{needs}
 use Prim.Native.Nat.{_≤_, _-_, _<_}
 use mathlib.Core.Path.{_≡_, _∙_}
 use native.Mathlib.Omega.{arith}
 use lib.ListN.{length}
-use Rattle.checker.specs.FactSets.{factsOf}
 use Rattle.finder.proofs.SearchLaws.{few-nodes, some-line, room-line, Prepared, prepared-start, prepared-next, prepared-end}
 use Rattle.finder.proofs.search.prepare.Statement.{statement}
 use Rattle.finder.proofs.search.prepare.Tie as tie

@@ -1,7 +1,7 @@
 -- `text::table::put_and` meets its contract, by `HoldLaws`. Assumes nothing.
 use native.Mathlib.Omega.{arith}
+use Rattle.rule.specs.Nodes.{formIn}
 use borrow.Author.Needs.{needs}
-use Rattle.spec.specs.Rule.{form32}
 use Rattle.text.specs.Building.{putImplies, putNot}
 use Rattle.text.proofs.HoldLaws.{holds-after, count-implies, count-not}
 use Rattle.text.proofs.table.put_and.Statement.{statement}
@@ -29,7 +29,7 @@ put-not-requires-2 c κs =
 
 returns : tie.Need-returns
 returns c =
-    holds-after (putNot form32) (holds-after (putImplies form32 (c .before .before .before .before .before .before .args .left))
+    holds-after (putNot formIn) (holds-after (putImplies formIn (c .before .before .before .before .before .before .args .left))
     (c .before .before .before .before .put-not .ensures) (c .before .before .put-implies .ensures)) (c .put-not2 .ensures)
 
 pub put-and-spec : {M : Type 1} → statement M

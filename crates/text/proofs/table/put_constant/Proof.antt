@@ -3,9 +3,9 @@ use mathlib.Core.Path.{sym, subst, ap}
 use Prim.Native.Nat.{_+_, _≤_}
 use native.Mathlib.Omega.{arith}
 use lib.ListN.{take}
-use Rattle.spec.specs.Rule.{form32}
 use Rattle.grammar.specs.Grammar.{constantWord, word}
 use Rattle.text.specs.Building.{putConstant, tokenCost}
+use Rattle.rule.specs.Nodes.{formIn}
 use Rattle.text.proofs.HoldLaws.{holds-as}
 use Rattle.text.proofs.table.put_constant.Statement.{statement}
 use Rattle.text.proofs.table.put_constant.Tie as tie
@@ -25,12 +25,12 @@ put-false-requires c κs =
 returns : tie.Need-returns
 returns c =
     let s = c .before .before .before in
-    holds-as (ap (λ b. putConstant form32 b (take (s .args .n) (s .args .table .now))) (sym (c .before .before .if1 .taken))) (c .put-true .ensures)
+    holds-as (ap (λ b. putConstant formIn b (take (s .args .n) (s .args .table .now))) (sym (c .before .before .if1 .taken))) (c .put-true .ensures)
 
 returns-2 : tie.Need-returns-2
 returns-2 c =
     let s = c .before .before .before in
-    holds-as (ap (λ b. putConstant form32 b (take (s .args .n) (s .args .table .now))) (sym (c .before .before .if1 .left))) (c .put-false .ensures)
+    holds-as (ap (λ b. putConstant formIn b (take (s .args .n) (s .args .table .now))) (sym (c .before .before .if1 .left))) (c .put-false .ensures)
 
 pub put-constant-spec : {M : Type 1} → statement M
 put-constant-spec = tie.close (tie.spec put-true-requires put-false-requires returns returns-2)

@@ -5,9 +5,9 @@ use mathlib.Core.Path.{sym, ap}
 use Prim.Native.Nat.{ℕ, _≤_}
 use native.Mathlib.Omega.{arith}
 use lib.ListN.{take}
-use Rattle.spec.specs.Rule.{form32}
 use Rattle.text.specs.Stacks.{waitingOf}
 use Rattle.text.specs.Building.{finishes, finishCost}
+use Rattle.rule.specs.Nodes.{formIn}
 use Rattle.text.proofs.StackLaws.{ends-alike}
 use Rattle.text.proofs.HoldLaws.{holds-as}
 use Rattle.text.proofs.table.put_end.Statement.{statement}
@@ -64,56 +64,56 @@ put-and-requires c κs =
 put-implies-requires : tie.Need-put-implies-requires
 put-implies-requires c κs =
     let s = c .before .before in
-    let e = ends-alike form32 (s .args .word) 0 [] (above (s .args .word) (c .before .match .rest .0 .0 .0 .0 .0 .0 .1) (c .before .match .rest .0 .0 .0 .0 .0 .1) (c .before .match .rest .0 .0 .0 .0 .1) (c .before .match .rest .0 .0 .0 .1) (c .before .match .rest .0 .0 .1) (c .before .match .rest .0 .1) (c .before .match .rest .1)) .0 in
+    let e = ends-alike formIn (s .args .word) 0 [] (above (s .args .word) (c .before .match .rest .0 .0 .0 .0 .0 .0 .1) (c .before .match .rest .0 .0 .0 .0 .0 .1) (c .before .match .rest .0 .0 .0 .0 .1) (c .before .match .rest .0 .0 .0 .1) (c .before .match .rest .0 .0 .1) (c .before .match .rest .0 .1) (c .before .match .rest .1)) .0 in
     (omega (arith, e, s .pre .0), s .pre .1, s .pre .2)
 
 returns : tie.Need-returns
 returns c =
     let s = c .before .before .before in
-    holds-as (ap (λ w. finishes form32 (waitingOf w) (s .args .left) (take (s .args .n) (s .args .table .now))) (sym
+    holds-as (ap (λ w. finishes formIn (waitingOf w) (s .args .left) (take (s .args .n) (s .args .table .now))) (sym
     (c .before .before .match .keys1))) (c .put-not .ensures)
 
 returns-2 : tie.Need-returns-2
 returns-2 c =
     let s = c .before .before .before in
-    holds-as (ap (λ w. finishes form32 (waitingOf w) (s .args .left) (take (s .args .n) (s .args .table .now))) (sym
+    holds-as (ap (λ w. finishes formIn (waitingOf w) (s .args .left) (take (s .args .n) (s .args .table .now))) (sym
     (c .before .before .match .keys2))) (c .put-weak .ensures)
 
 returns-3 : tie.Need-returns-3
 returns-3 c =
     let s = c .before .before .before in
-    holds-as (ap (λ w. finishes form32 (waitingOf w) (s .args .left) (take (s .args .n) (s .args .table .now))) (sym
+    holds-as (ap (λ w. finishes formIn (waitingOf w) (s .args .left) (take (s .args .n) (s .args .table .now))) (sym
     (c .before .before .match .keys3))) (c .put-prev .ensures)
 
 returns-4 : tie.Need-returns-4
 returns-4 c =
     let s = c .before .before .before in
-    holds-as (ap (λ w. finishes form32 (waitingOf w) (s .args .left) (take (s .args .n) (s .args .table .now))) (sym
+    holds-as (ap (λ w. finishes formIn (waitingOf w) (s .args .left) (take (s .args .n) (s .args .table .now))) (sym
     (c .before .before .match .keys4))) (c .put-since .ensures)
 
 returns-5 : tie.Need-returns-5
 returns-5 c =
     let s = c .before .before .before in
-    holds-as (ap (λ w. finishes form32 (waitingOf w) (s .args .left) (take (s .args .n) (s .args .table .now))) (sym
+    holds-as (ap (λ w. finishes formIn (waitingOf w) (s .args .left) (take (s .args .n) (s .args .table .now))) (sym
     (c .before .before .match .keys5))) (c .put-sofar .ensures)
 
 returns-6 : tie.Need-returns-6
 returns-6 c =
     let s = c .before .before .before in
-    holds-as (ap (λ w. finishes form32 (waitingOf w) (s .args .left) (take (s .args .n) (s .args .table .now))) (sym
+    holds-as (ap (λ w. finishes formIn (waitingOf w) (s .args .left) (take (s .args .n) (s .args .table .now))) (sym
     (c .before .before .match .keys6))) (c .put-since2 .ensures)
 
 returns-7 : tie.Need-returns-7
 returns-7 c =
     let s = c .before .before .before in
-    holds-as (ap (λ w. finishes form32 (waitingOf w) (s .args .left) (take (s .args .n) (s .args .table .now))) (sym
+    holds-as (ap (λ w. finishes formIn (waitingOf w) (s .args .left) (take (s .args .n) (s .args .table .now))) (sym
     (c .before .before .match .keys7))) (c .put-and .ensures)
 
 returns-8 : tie.Need-returns-8
 returns-8 c =
     let s = c .before .before .before in
     let keys = c .before .before .match in
-    holds-as (ends-alike form32 (s .args .word) (s .args .left) (take (s .args .n) (s .args .table .now)) (above (s .args .word)
+    holds-as (ends-alike formIn (s .args .word) (s .args .left) (take (s .args .n) (s .args .table .now)) (above (s .args .word)
     (keys .rest .0 .0 .0 .0 .0 .0 .1) (keys .rest .0 .0 .0 .0 .0 .1) (keys .rest .0 .0 .0 .0 .1) (keys .rest .0 .0 .0 .1) (keys .rest .0 .0 .1)
     (keys .rest .0 .1) (keys .rest .1)) .1) (c .put-implies .ensures)
 

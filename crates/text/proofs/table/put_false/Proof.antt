@@ -1,14 +1,17 @@
--- `text::table::put_false` meets its contract, by `HoldLaws`. Assumes nothing.
+-- `text::table::put_false` meets its contract: false is put. Assumes nothing.
 use borrow.Author.Needs.{needs}
-use Rattle.text.proofs.HoldLaws.{holds-false}
 use Rattle.text.proofs.table.put_false.Statement.{statement}
 use Rattle.text.proofs.table.put_false.Tie as tie
 
-put-word-requires : tie.Need-put-word-requires
-put-word-requires c κs = search needs
+put-node-requires : tie.Need-put-node-requires
+put-node-requires c κs = (c .before .pre .0, c .before .pre .1, tt)
 
 returns : tie.Need-returns
-returns c = holds-false (c .before .before .args .table .now) (c .put-word .last .0) (c .before .before .args .n) (c .put-word .result) (c .put-word .ensures)
+returns c = c .put-node .ensures
 
 pub put-false-spec : {M : Type 1} → statement M
-put-false-spec = tie.close (tie.spec put-word-requires returns)
+put-false-spec =
+    tie.close
+    (tie.spec
+    put-node-requires
+    returns)

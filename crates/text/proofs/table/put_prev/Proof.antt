@@ -1,7 +1,7 @@
 -- `text::table::put_prev` meets its contract, by `HoldLaws`. Assumes nothing.
 use native.Mathlib.Omega.{arith}
+use Rattle.rule.specs.Nodes.{formIn}
 use borrow.Author.Needs.{needs}
-use Rattle.spec.specs.Rule.{form32}
 use Rattle.text.specs.Building.{putWeak, putNot}
 use Rattle.text.proofs.HoldLaws.{holds-after, count-weak, count-not}
 use Rattle.text.proofs.table.put_prev.Statement.{statement}
@@ -29,7 +29,7 @@ put-not-requires-2 c κs =
 
 returns : tie.Need-returns
 returns c =
-    holds-after (putNot form32) (holds-after (putWeak form32) (c .before .before .before .before .put-not .ensures)
+    holds-after (putNot formIn) (holds-after (putWeak formIn) (c .before .before .before .before .put-not .ensures)
     (c .before .before .put-weak .ensures)) (c .put-not2 .ensures)
 
 pub put-prev-spec : {M : Type 1} → statement M

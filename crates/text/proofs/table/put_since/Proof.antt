@@ -1,24 +1,29 @@
--- `text::table::put_since` meets its contract, by `HoldLaws`. Assumes nothing.
-use borrow.Author.Needs.{needs}
+-- `text::table::put_since` meets its contract: by `HoldLaws`. Assumes nothing.
+use native.Mathlib.Omega.{arith}
 use Rattle.text.proofs.HoldLaws.{holds-since}
+use borrow.Author.Needs.{needs}
 use Rattle.text.proofs.table.put_since.Statement.{statement}
 use Rattle.text.proofs.table.put_since.Tie as tie
 
 minus-requires : tie.Need-minus-requires
 minus-requires c κs = search needs
 
-node-word-requires : tie.Need-node-word-requires
-node-word-requires c κs = search needs
-
-put-word-requires : tie.Need-put-word-requires
-put-word-requires c κs = search needs
+put-node-requires : tie.Need-put-node-requires
+put-node-requires c κs =
+    let p = c .before .before .pre in
+    let right = c .before .minus .ensures in
+    (p .0, p .1, (omega arith, omega arith))
 
 returns : tie.Need-returns
 returns c =
-    let s = c .before .before .before .before in
-    holds-since (s .args .table .now) (c .put-word .last .0) (s .args .n) (c .put-word .result) _ (s .args .left) _ (s .pre .0) (s .pre .1)
-    (c .before .before .minus .ensures) (c .put-word .ensures) (c .before .node-word .ensures)
+    let a = c .before .before .before .args in
+    let p = c .before .before .before .pre in
+    holds-since (a .table .now) (c .put-node .last .0) (a .n) (c .put-node .result) (a .left) _ (p .0) (p .1) (c .before .before .minus .ensures) (c .put-node .ensures)
 
 pub put-since-spec : {M : Type 1} → statement M
 put-since-spec =
-    tie.close (tie.spec minus-requires node-word-requires put-word-requires returns)
+    tie.close
+    (tie.spec
+    minus-requires
+    put-node-requires
+    returns)

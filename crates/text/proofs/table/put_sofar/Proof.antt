@@ -1,7 +1,7 @@
 -- `text::table::put_sofar` meets its contract, by `HoldLaws`. Assumes nothing.
 use native.Mathlib.Omega.{arith}
+use Rattle.rule.specs.Nodes.{formIn}
 use borrow.Author.Needs.{needs}
-use Rattle.spec.specs.Rule.{form32}
 use Rattle.text.specs.Building.{putSince, putNot}
 use Rattle.text.proofs.HoldLaws.{holds-after, count-since, count-not}
 use Rattle.text.proofs.table.put_sofar.Statement.{statement}
@@ -29,7 +29,7 @@ put-not-requires-2 c κs =
 
 returns : tie.Need-returns
 returns c =
-    holds-after (putNot form32) (holds-after (putSince form32 (c .before .before .before .before .before .before .args .left))
+    holds-after (putNot formIn) (holds-after (putSince formIn (c .before .before .before .before .before .before .args .left))
     (c .before .before .before .before .put-not .ensures) (c .before .before .put-since .ensures)) (c .put-not2 .ensures)
 
 pub put-sofar-spec : {M : Type 1} → statement M

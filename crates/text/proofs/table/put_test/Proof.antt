@@ -1,60 +1,47 @@
--- `text::table::put_test` meets its contract, by `HoldLaws`. Assumes nothing.
-use mathlib.Core.Path.{refl, sym, subst}
+-- `text::table::put_test` meets its contract: the test is put. Assumes nothing.
+use mathlib.Core.Path.{sym, subst}
+use native.Mathlib.Omega.{arith}
 use lib.ListN.{take}
-use borrow.Author.Needs.{needs}
-use Rattle.spec.specs.Rule.{form32, testNode}
+use Rattle.spec.specs.Rule.{testNode}
+use Rattle.rule.specs.Nodes.{formIn}
 use Rattle.grammar.specs.Typed.{testOf}
 use Rattle.text.specs.Stacks.{comparisonOf, Holds}
 use Rattle.text.specs.Building.{put}
-use Rattle.text.proofs.HoldLaws.{holds-equal, holds-below}
+use borrow.Author.Needs.{needs}
 use Rattle.text.proofs.table.put_test.Statement.{statement}
 use Rattle.text.proofs.table.put_test.Tie as tie
 
-mul-fields : tie.Need-mul-fields
-mul-fields c = search needs
+cast-c : tie.Need-cast-c
+cast-c c = search needs
 
-mul-fields-2 : tie.Need-mul-fields-2
-mul-fields-2 c = search needs
+put-node-requires : tie.Need-put-node-requires
+put-node-requires c κs =
+    let p = c .before .before .pre in
+    (p .0, p .1, (omega arith, omega arith))
 
-add-fields : tie.Need-add-fields
-add-fields c = search needs
-
-add-put-word : tie.Need-add-put-word
-add-put-word c = search needs
-
-put-word-requires : tie.Need-put-word-requires
-put-word-requires c κs = search needs
-
-add-put-word-2 : tie.Need-add-put-word-2
-add-put-word-2 c = search needs
-
-put-word-requires-2 : tie.Need-put-word-requires-2
-put-word-requires-2 c κs = search needs
+put-node-requires-2 : tie.Need-put-node-requires-2
+put-node-requires-2 c κs =
+    let p = c .before .before .pre in
+    (p .0, p .1, (omega arith, omega arith))
 
 returns : tie.Need-returns
 returns c =
-    let s = c .before .before .before in
-    subst (λ b. Holds (c .put-word .last .0) (c .put-word .result) (put form32 (testNode (testOf (comparisonOf b) (s .args .register)
-    (s .args .constant))) (take (s .args .n) (s .args .table .now)))) (sym (c .before .before .if1 .taken)) (holds-below (s .args .table .now) _
-    (s .args .n) _ _ (s .args .register) (s .args .constant) refl (c .put-word .ensures))
+    let a = c .before .before .before .args in
+    subst (λ b. Holds (c .put-node .last .0) (c .put-node .result) (put formIn (testNode (testOf (comparisonOf b) (a .register) (a .constant))) (take (a .n) (a .table .now))))
+    (sym (c .before .before .if1 .taken)) (c .put-node .ensures)
 
 returns-2 : tie.Need-returns-2
 returns-2 c =
-    let s = c .before .before .before in
-    subst (λ b. Holds (c .put-word2 .last .0) (c .put-word2 .result) (put form32 (testNode (testOf (comparisonOf b) (s .args .register)
-    (s .args .constant))) (take (s .args .n) (s .args .table .now)))) (sym (c .before .before .if1 .left)) (holds-equal (s .args .table .now) _
-    (s .args .n) _ _ (s .args .register) (s .args .constant) refl (c .put-word2 .ensures))
+    let a = c .before .before .before .args in
+    subst (λ b. Holds (c .put-node2 .last .0) (c .put-node2 .result) (put formIn (testNode (testOf (comparisonOf b) (a .register) (a .constant))) (take (a .n) (a .table .now))))
+    (sym (c .before .before .if1 .left)) (c .put-node2 .ensures)
 
 pub put-test-spec : {M : Type 1} → statement M
 put-test-spec =
     tie.close
     (tie.spec
-    mul-fields
-    mul-fields-2
-    add-fields
-    add-put-word
-    put-word-requires
-    add-put-word-2
-    put-word-requires-2
+    cast-c
+    put-node-requires
+    put-node-requires-2
     returns
     returns-2)

@@ -1,7 +1,8 @@
 -- `text::table::put_true` meets its contract, by `HoldLaws`. Assumes nothing.
 use native.Mathlib.Omega.{arith}
+use Rattle.rule.specs.Nodes.{formIn}
 use borrow.Author.Needs.{needs}
-use Rattle.spec.specs.Rule.{form32, falseNode}
+use Rattle.spec.specs.Rule.{falseNode}
 use Rattle.text.specs.Building.{putNot, putTrue}
 use Rattle.text.proofs.HoldLaws.{holds-after, count-put}
 use Rattle.text.proofs.table.put_true.Statement.{statement}
@@ -19,7 +20,7 @@ put-not-requires c κs =
 
 returns : tie.Need-returns
 unfolding putTrue
-returns c = holds-after (putNot form32) (c .before .before .put-false .ensures) (c .put-not .ensures)
+returns c = holds-after (putNot formIn) (c .before .before .put-false .ensures) (c .put-not .ensures)
 
 pub put-true-spec : {M : Type 1} → statement M
 put-true-spec = tie.close (tie.spec put-false-requires put-not-requires returns)

@@ -9,13 +9,13 @@ use Rattle.spec.proofs.RuleLaws.{rule-out}
 use Rattle.spec.specs.Weaver.{doneFacts}
 use Rattle.spec.specs.Rule.{form32, hasWork}
 use Rattle.sets.specs.Sets.{capacity}
-use Rattle.checker.proofs.GroupLaws.{Gathered, gather-start, gather-next}
-use Rattle.layout.specs.Layout.{tableIn}
-use Rattle.checker.specs.FactSets.{factsOf}
+use Rattle.facts.proofs.GroupLaws.{Gathered, gather-start, gather-next}
+use Rattle.rule.specs.Nodes.{tableIn, formIn}
+use Rattle.facts.specs.FactSets.{factsOf}
+use Rattle.facts.proofs.OverLaws.{part-length}
 use Rattle.weaver.proofs.BlockLaws.{updatingSeries, updatable-room, updating-few, updating-node, updating-size, updating-code}
 use Rattle.weaver.proofs.SeriesLaws.{Filled, filled-start, filled-room, filled-next, filled-end}
 use Rattle.weaver.proofs.NotedLaws.{done-noted}
-use Rattle.output.proofs.OverLaws.{part-length}
 use borrow.Author.Needs.{needs}
 use Rattle.weaver.proofs.block.put_updates.Statement.{statement}
 use Rattle.weaver.proofs.block.put_updates.Tie as tie
@@ -33,28 +33,28 @@ noted-requires : tie.Need-noted-requires Inv-loop μ-loop
 noted-requires c κs = search needs
 
 add-put-work : tie.Need-add-put-work Inv-loop μ-loop
-add-put-work c = let f = updating-few (c .before .before .before .before .before .args .rule .now) (c .before .before .before .before .before .args .sizes .now) (c .before .before .before .before .before .args .shared) (c .before .before .before .before .before .args .place) (c .before .before .before .before .before .args .out .now) (c .before .before .before .before .before .pre .0) (c .before .before .loop .out) (c .before .before .loop .n) (c .before .before .loop .k) (c .before .before .loop .inv .0) (c .before .loop-test .taken) in omega arith
+add-put-work c = let f = updating-few _ _ _ _ _ (c .before .before .before .before .before .pre .0) (c .before .before .loop .out) (c .before .before .loop .n) (c .before .before .loop .k) (c .before .before .loop .inv .0) (c .before .loop-test .taken) in omega arith
 
 mul-put-work : tie.Need-mul-put-work Inv-loop μ-loop
-mul-put-work c = let f = updating-few (c .before .before .before .before .before .args .rule .now) (c .before .before .before .before .before .args .sizes .now) (c .before .before .before .before .before .args .shared) (c .before .before .before .before .before .args .place) (c .before .before .before .before .before .args .out .now) (c .before .before .before .before .before .pre .0) (c .before .before .loop .out) (c .before .before .loop .n) (c .before .before .loop .k) (c .before .before .loop .inv .0) (c .before .loop-test .taken) in omega arith
+mul-put-work c = let f = updating-few _ _ _ _ _ (c .before .before .before .before .before .pre .0) (c .before .before .loop .out) (c .before .before .loop .n) (c .before .before .loop .k) (c .before .before .loop .inv .0) (c .before .loop-test .taken) in omega arith
 
 mul-put-work-2 : tie.Need-mul-put-work-2 Inv-loop μ-loop
-mul-put-work-2 c = let f = updating-few (c .before .before .before .before .before .args .rule .now) (c .before .before .before .before .before .args .sizes .now) (c .before .before .before .before .before .args .shared) (c .before .before .before .before .before .args .place) (c .before .before .before .before .before .args .out .now) (c .before .before .before .before .before .pre .0) (c .before .before .loop .out) (c .before .before .loop .n) (c .before .before .loop .k) (c .before .before .loop .inv .0) (c .before .loop-test .taken) in omega arith
+mul-put-work-2 c = let f = updating-few _ _ _ _ _ (c .before .before .before .before .before .pre .0) (c .before .before .loop .out) (c .before .before .loop .n) (c .before .before .loop .k) (c .before .before .loop .inv .0) (c .before .loop-test .taken) in omega arith
 
 sub-put-work : tie.Need-sub-put-work Inv-loop μ-loop
-sub-put-work c = let f = updating-few (c .before .before .before .before .before .args .rule .now) (c .before .before .before .before .before .args .sizes .now) (c .before .before .before .before .before .args .shared) (c .before .before .before .before .before .args .place) (c .before .before .before .before .before .args .out .now) (c .before .before .before .before .before .pre .0) (c .before .before .loop .out) (c .before .before .loop .n) (c .before .before .loop .k) (c .before .before .loop .inv .0) (c .before .loop-test .taken) in f .0
+sub-put-work c = let f = updating-few _ _ _ _ _ (c .before .before .before .before .before .pre .0) (c .before .before .loop .out) (c .before .before .loop .n) (c .before .before .loop .k) (c .before .before .loop .inv .0) (c .before .loop-test .taken) in f .0
 
 part-put-work-start : tie.Need-part-put-work-start Inv-loop μ-loop
-part-put-work-start c = let f = updating-few (c .before .before .before .before .before .args .rule .now) (c .before .before .before .before .before .args .sizes .now) (c .before .before .before .before .before .args .shared) (c .before .before .before .before .before .args .place) (c .before .before .before .before .before .args .out .now) (c .before .before .before .before .before .pre .0) (c .before .before .loop .out) (c .before .before .loop .n) (c .before .before .loop .k) (c .before .before .loop .inv .0) (c .before .loop-test .taken) in f .0
+part-put-work-start c = let f = updating-few _ _ _ _ _ (c .before .before .before .before .before .pre .0) (c .before .before .loop .out) (c .before .before .loop .n) (c .before .before .loop .k) (c .before .before .loop .inv .0) (c .before .loop-test .taken) in f .0
 
 part-put-work-end : tie.Need-part-put-work-end Inv-loop μ-loop
 part-put-work-end c = search needs
 
 put-work-requires : tie.Need-put-work-requires Inv-loop μ-loop
-put-work-requires c κs = updating-node (c .before .before .before .before .before .before .args .rule .now) (c .before .before .before .before .before .before .args .sizes .now) (c .before .before .before .before .before .before .args .shared) (c .before .before .before .before .before .before .args .place) (c .before .before .before .before .before .before .args .out .now) (c .before .before .before .before .before .before .pre .0) (c .before .before .before .loop .out) (c .before .before .before .loop .n) (c .before .before .before .loop .k) (c .before .before .before .loop .inv .0) (c .before .before .loop-test .taken) _ (part-length (8 * (c .before .before .before .loop .n)) (c .before .before .before .loop .out))
+put-work-requires c κs = updating-node _ _ _ _ _ (c .before .before .before .before .before .before .pre .0) (c .before .before .before .loop .out) (c .before .before .before .loop .n) (c .before .before .before .loop .k) (c .before .before .before .loop .inv .0) (c .before .before .loop-test .taken) _ (part-length (8 * (c .before .before .before .loop .n)) (c .before .before .before .loop .out))
 
 add-n : tie.Need-add-n Inv-loop μ-loop
-add-n c = let f = updating-few (c .before .before .before .before .before .before .before .before .before .args .rule .now) (c .before .before .before .before .before .before .before .before .before .args .sizes .now) (c .before .before .before .before .before .before .before .before .before .args .shared) (c .before .before .before .before .before .before .before .before .before .args .place) (c .before .before .before .before .before .before .before .before .before .args .out .now) (c .before .before .before .before .before .before .before .before .before .pre .0) (c .before .before .before .before .before .before .loop .out) (c .before .before .before .before .before .before .loop .n) (c .before .before .before .before .before .before .loop .k) (c .before .before .before .before .before .before .loop .inv .0) (c .before .before .before .before .before .loop-test .taken) in omega (arith, c .before .before .put-work .ensures .0)
+add-n c = let f = updating-few _ _ _ _ _ (c .before .before .before .before .before .before .before .before .before .pre .0) (c .before .before .before .before .before .before .loop .out) (c .before .before .before .before .before .before .loop .n) (c .before .before .before .before .before .before .loop .k) (c .before .before .before .before .before .before .loop .inv .0) (c .before .before .before .before .before .loop-test .taken) in omega (arith, c .before .before .put-work .ensures .0)
 
 has-requires : tie.Need-has-requires Inv-loop μ-loop
 has-requires c κs = search needs
@@ -75,12 +75,12 @@ loop-again c = let a = c .before .before .before .before .before .before .before
     let t = tableIn (a .rule .now) in
     let u = c .before .before .before .before .before .before .before .before .before .before .before .pre .0 in
     let h = c .before .before .before .before .before .before .before .loop-test .taken in
-    let few = rule-out form32 (a .rule .now) (u .sized .0) .few-nodes in
+    let few = rule-out formIn (a .rule .now) (u .sized .0) .few-nodes in
     let small : l .k < capacity = omega arith in
     let noted : factsOf (c .before .before .before .before .before .before .noted .result) ≡ doneFacts t (l .k) = c .before .before .before .before .before .before .noted .ensures ∙ done-noted t (a .past) (c .before .before .before .before .before .before .before .before .before .before .before .pre .1) (l .k) (l .done) (l .inv .2) in (
       filled-next (updatingSeries t (a .place)) (a .out .now) (l .out) (l .n) (l .k) (length (a .rule .now)) (l .inv .0) (l .inv .1) (updatable-room (a .rule .now) (a .sizes .now) (a .shared) (a .place) (a .out .now) u) h (c .before .before .before .before .put-work .result) _
-          (updating-size (c .before .before .before .before .before .before .before .before .before .before .before .args .rule .now) (c .before .before .before .before .before .before .before .before .before .before .before .args .sizes .now) (c .before .before .before .before .before .before .before .before .before .before .before .args .shared) (c .before .before .before .before .before .before .before .before .before .before .before .args .place) (c .before .before .before .before .before .before .before .before .before .before .before .args .out .now) (c .before .before .before .before .before .before .before .before .before .before .before .pre .0) (c .before .before .before .before .before .before .before .before .loop .out) (c .before .before .before .before .before .before .before .before .loop .n) (c .before .before .before .before .before .before .before .before .loop .k) (c .before .before .before .before .before .before .before .before .loop .inv .0) h (c .before .before .before .before .put-work .result) (c .before .before .before .before .put-work .ensures .0))
-          (c .before .before .before .before .put-work .ensures .1 ∙ updating-code (c .before .before .before .before .before .before .before .before .before .before .before .args .rule .now) (c .before .before .before .before .before .before .before .before .before .before .before .args .sizes .now) (c .before .before .before .before .before .before .before .before .before .before .before .args .shared) (c .before .before .before .before .before .before .before .before .before .before .before .args .place) (c .before .before .before .before .before .before .before .before .before .before .before .args .out .now) (c .before .before .before .before .before .before .before .before .before .before .before .pre .0) (c .before .before .before .before .before .before .before .before .loop .out) (c .before .before .before .before .before .before .before .before .loop .n) (c .before .before .before .before .before .before .before .before .loop .k) (c .before .before .before .before .before .before .before .before .loop .inv .0) h (factsOf (c .before .before .before .before .before .before .noted .result)) _ noted),
+          (updating-size _ _ _ _ _ (c .before .before .before .before .before .before .before .before .before .before .before .pre .0) (c .before .before .before .before .before .before .before .before .loop .out) (c .before .before .before .before .before .before .before .before .loop .n) (c .before .before .before .before .before .before .before .before .loop .k) (c .before .before .before .before .before .before .before .before .loop .inv .0) h (c .before .before .before .before .put-work .result) (c .before .before .before .before .put-work .ensures .0))
+          (c .before .before .before .before .put-work .ensures .1 ∙ updating-code _ _ _ _ _ (c .before .before .before .before .before .before .before .before .before .before .before .pre .0) (c .before .before .before .before .before .before .before .before .loop .out) (c .before .before .before .before .before .before .before .before .loop .n) (c .before .before .before .before .before .before .before .before .loop .k) (c .before .before .before .before .before .before .before .before .loop .inv .0) h (factsOf (c .before .before .before .before .before .before .noted .result)) _ noted),
       omega arith,
       gather-next (hasWork t) (l .k) (l .done) (c .with-if .result) (c .before .has .result) small (c .before .has .ensures ∙ ap (λ s. s (l .k)) (c .before .before .before .before .before .before .before .before .before .before .before .pre .2)) (c .with-if .ensures) (l .inv .2),
     )
@@ -93,7 +93,7 @@ returns c = let a = c .before .before .before .before .args in
     let l = c .before .loop in
     let t = tableIn (a .rule .now) in
     let e = filled-end (updatingSeries t (a .place)) (a .out .now) (l .out) (l .n) (l .k) (length (a .rule .now)) (l .inv .0) (l .inv .1) (c .loop-test .left) in
-    (e .0 ∙ length-updates t (rule-out form32 (a .rule .now) (c .before .before .before .before .pre .0 .sized .0) .ordered) (length (a .rule .now)) (a .place), e .1)
+    (e .0 ∙ length-updates t (rule-out formIn (a .rule .now) (c .before .before .before .before .pre .0 .sized .0) .ordered) (length (a .rule .now)) (a .place), e .1)
 
 pub put-updates-spec : {M : Type 1} → statement M
 put-updates-spec =

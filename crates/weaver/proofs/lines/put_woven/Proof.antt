@@ -2,34 +2,38 @@
 use mathlib.Core.Path.{sym, ap, _∙_}
 use Prim.Native.Nat.{_-_}
 use Rattle.spec.specs.Weaver.{bareFacts, startOf, retarget}
-use Rattle.spec.specs.Script.{bareCode, instructionAt, isPresent, wordFor}
+use Rattle.spec.specs.Script.{bareCode, instructionAt, isPresent, wordFor, instructionRead, instructionOf}
 use Rattle.layout.proofs.StartLaws.{code-at}
-use Rattle.layout.specs.Layout.{tableIn}
+use Rattle.rule.specs.Nodes.{tableIn}
+use Rattle.facts.specs.Written.{written}
 use Rattle.weaver.proofs.LinesLaws.{present-line, other-line, woven-block, woven-line}
 use Rattle.weaver.proofs.NotedLaws.{bare-noted}
 use Rattle.weaver.proofs.UpdateLaws.{one-line}
-use Rattle.output.specs.Written.{written}
 use borrow.Author.Needs.{needs}
 use Rattle.weaver.proofs.lines.put_woven.Statement.{statement}
 use Rattle.weaver.proofs.lines.put_woven.Tie as tie
 
-mul-is-present : tie.Need-mul-is-present
-mul-is-present c = search needs
+mul-decode : tie.Need-mul-decode
+mul-decode c = search needs
 
-shared-slice-read-is-present : tie.Need-shared-slice-read-is-present
-shared-slice-read-is-present c = search needs
+shared-slice-read-decode : tie.Need-shared-slice-read-decode
+shared-slice-read-decode c = search needs
+
+decode-requires : tie.Need-decode-requires
+decode-requires c κs = search needs
 
 is-present-requires : tie.Need-is-present-requires
 is-present-requires c κs = search needs
 
 put-block-requires : tie.Need-put-block-requires
-put-block-requires c κs = let s = c .before .before .before .before .before .before .before in (
-  woven-block (s .args .rule .now) (s .args .bare .now) (s .args .sizes .now) (s .args .starts .now) (s .args .size) (s .args .shared)
-      (s .args .past) (s .pre .0) (s .args .l) (s .args .place) (s .args .out .now) (s .pre .1) (s .pre .2) (ap isPresent (code-at
-      (s .args .bare .now) (s .args .l)) ∙ sym (c .before .before .is-present .ensures) ∙ c .before .if1 .taken)
-      (s .pre .3),
-  s .pre .0 .started .blockIs,
-  s .pre .0 .pastIs,
+unfolding instructionRead
+put-block-requires c κs = (
+  woven-block _ _ _ _ _ (c .before .before .before .before .before .before .before .before .args .shared)
+      _ (c .before .before .before .before .before .before .before .before .pre .0) _ _ _ (c .before .before .before .before .before .before .before .before .pre .1) (c .before .before .before .before .before .before .before .before .pre .2) (ap isPresent (code-at
+      _ (c .before .before .before .before .before .before .before .before .args .l)) ∙ ap (λ f. isPresent (instructionOf f)) (sym (c .before .before .before .decode .ensures .0)) ∙ sym (c .before .before .is-present .ensures) ∙ c .before .if1 .taken)
+      (c .before .before .before .before .before .before .before .before .pre .3),
+  c .before .before .before .before .before .before .before .before .pre .0 .started .blockIs,
+  c .before .before .before .before .before .before .before .before .pre .0 .pastIs,
 )
 
 moved-word-requires : tie.Need-moved-word-requires
@@ -39,38 +43,37 @@ noted-requires : tie.Need-noted-requires
 noted-requires c κs = search needs
 
 put-line-requires : tie.Need-put-line-requires
-put-line-requires c κs = let s = c .before .before .before .before .before .before .before .before .before in
-    woven-line (s .args .rule .now) (s .args .bare .now) (s .args .sizes .now) (s .args .starts .now) (s .args .size) (s .args .shared)
-    (s .args .past) (s .pre .0) (s .args .l) (s .args .out .now) (s .pre .3) (ap isPresent (code-at (s .args .bare .now) (s .args .l)) ∙ sym
-    (c .before .before .before .before .is-present .ensures) ∙ c .before .before .before .if1 .left)
+unfolding instructionRead
+put-line-requires c κs =
+    let a = c .before .before .before .before .before .before .before .before .before .before .args in
+    woven-line (a .rule .now) (a .bare .now) (a .sizes .now) (a .starts .now) (a .size) (a .shared) (a .past) (c .before .before .before .before .before .before .before .before .before .before .pre .0) (a .l) (a .out .now) (c .before .before .before .before .before .before .before .before .before .before .pre .3)
+    (ap isPresent (code-at (a .bare .now) (a .l)) ∙ ap (λ f. isPresent (instructionOf f)) (sym (c .before .before .before .before .before .decode .ensures .0)) ∙ sym (c .before .before .before .before .is-present .ensures) ∙ c .before .before .before .if1 .left)
 
 same-length : tie.Need-same-length
 same-length c = search needs
 
 returns : tie.Need-returns
-returns c = let s = c .before .before .before .before .before .before .before .before .before .before in
-    let a = s .args in
+unfolding instructionRead
+returns c = let a = c .before .before .before .before .before .before .before .before .before .before .before .args in
     let p = present-line (tableIn (a .rule .now)) (bareCode (a .bare .now)) (a .place) (instructionAt (bareCode (a .bare .now)) (a .l))
-    (ap isPresent (code-at (s .args .bare .now) (s .args .l)) ∙ sym
-    (c .before .before .before .before .before .is-present .ensures) ∙ c .before .before .before .before .if1 .taken) in
-    (s .pre .0 .started .blockIs ∙ p .0, c .before .before .put-block .ensures ∙ ap (λ ls. written ls (a .out .now)) (p .1))
+    (ap isPresent (code-at _ (c .before .before .before .before .before .before .before .before .before .before .before .args .l)) ∙ ap (λ f. isPresent (instructionOf f)) (sym (c .before .before .before .before .before .before .decode .ensures .0)) ∙ sym (c .before .before .before .before .before .is-present .ensures) ∙ c .before .before .before .before .if1 .taken) in
+    (c .before .before .before .before .before .before .before .before .before .before .before .pre .0 .started .blockIs ∙ p .0, c .before .before .put-block .ensures ∙ ap (λ ls. written ls (a .out .now)) (p .1))
 
 same-length-2 : tie.Need-same-length-2
 same-length-2 c = search needs
 
 returns-2 : tie.Need-returns-2
-returns-2 c = let s = c .before .before .before .before .before .before .before .before .before .before .before .before in
-    let a = s .args in
+unfolding instructionRead
+returns-2 c = let a = c .before .before .before .before .before .before .before .before .before .before .before .before .before .args in
     let t = tableIn (a .rule .now) in
     let code = bareCode (a .bare .now) in
-    let p = other-line t code (a .place) (instructionAt code (a .l)) (ap isPresent (code-at (s .args .bare .now) (s .args .l)) ∙ sym
-    (c .before .before .before .before .before .before .before .is-present .ensures) ∙ c .before .before .before .before .before .before .if1 .left) in
+    let p = other-line t code (a .place) (instructionAt code (a .l)) (ap isPresent (code-at _ (c .before .before .before .before .before .before .before .before .before .before .before .before .before .args .l)) ∙ ap (λ f. isPresent (instructionOf f)) (sym (c .before .before .before .before .before .before .before .before .decode .ensures .0)) ∙ sym (c .before .before .before .before .before .before .before .is-present .ensures) ∙ c .before .before .before .before .before .before .if1 .left) in
     let i = retarget (startOf t code) (instructionAt code (a .l)) in (
       p .0,
       c .before .before .put-line .ensures
           ∙ one-line _ i (bareFacts t) _ (a .out .now) (c .before .before .before .before .before .moved-word .ensures ∙ ap (λ x. wordFor
           (retarget (startOf t code) x)) (sym (code-at (a .bare .now) (a .l)))) (c .before .before .before .before .noted .ensures ∙ bare-noted t
-          (a .past) (s .pre .0 .pastIs))
+          (a .past) (c .before .before .before .before .before .before .before .before .before .before .before .before .before .pre .0 .pastIs))
           ∙ ap (λ ls. written ls (a .out .now)) (p .1),
     )
 
@@ -78,8 +81,9 @@ pub put-woven-spec : {M : Type 1} → statement M
 put-woven-spec =
     tie.close
     (tie.spec
-    mul-is-present
-    shared-slice-read-is-present
+    mul-decode
+    shared-slice-read-decode
+    decode-requires
     is-present-requires
     put-block-requires
     moved-word-requires

@@ -8,15 +8,14 @@ use lib.ListN.{length-drop}
 use Rattle.spec.proofs.WeaverLaws.{length-decide}
 use Rattle.spec.proofs.RuleLaws.{rule-out}
 use Rattle.spec.specs.Weaver.{line, decide, decideSize}
-use Rattle.spec.specs.Rule.{form32}
 use Rattle.spec.specs.Facts.{priorIs, _∪_, one}
 use Rattle.spec.specs.Script.{wordFor, fieldsFor, branch, ifKept, goto}
-use Rattle.layout.specs.Layout.{tableIn}
-use Rattle.checker.specs.FactSets.{factsOf}
-use Rattle.output.specs.Written.{written}
+use Rattle.rule.specs.Nodes.{tableIn, formIn}
+use Rattle.facts.specs.FactSets.{factsOf}
+use Rattle.facts.specs.Written.{written}
+use Rattle.facts.proofs.OverLaws.{written-then, part-of}
 use Rattle.weaver.proofs.UpdateLaws.{two-lines, deciding-in, deciding-some}
 use Rattle.weaver.proofs.GrowthLaws.{add-first, add-second}
-use Rattle.output.proofs.OverLaws.{written-then, part-of}
 use Rattle.weaver.specs.Parts.{leftLines}
 use borrow.Author.Needs.{needs}
 use Rattle.weaver.proofs.update.put_left.Statement.{statement}
@@ -25,20 +24,17 @@ use Rattle.weaver.proofs.update.put_left.Tie as tie
 learn-prior-requires : tie.Need-learn-prior-requires
 learn-prior-requires c κs = search needs
 
-cast-code : tie.Need-cast-code
-cast-code c = search needs
+add-encode : tie.Need-add-encode
+add-encode c = search needs
 
-add-code : tie.Need-add-code
-add-code c = search needs
+encode-requires : tie.Need-encode-requires
+encode-requires c κs = let s = deciding-some _ _ _ _ _ _ _ _ (c .before .before .before .pre .2) in let i = c .before .before .before .pre .2 .inScript in let k = c .before .before .before .pre .0 in (omega arith, omega arith, omega arith, omega arith)
 
-code-requires : tie.Need-code-requires
-code-requires c κs = let s = deciding-some _ _ _ _ _ _ _ _ (c .before .before .before .pre .2) in let i = c .before .before .before .pre .2 .inScript in let k = c .before .before .before .pre .0 in (omega arith, omega arith, omega arith, omega arith)
+add-encode-2 : tie.Need-add-encode-2
+add-encode-2 c = search needs
 
-add-code-2 : tie.Need-add-code-2
-add-code-2 c = search needs
-
-code-requires-2 : tie.Need-code-requires-2
-code-requires-2 c κs = search needs
+encode-requires-2 : tie.Need-encode-requires-2
+encode-requires-2 c κs = search needs
 
 put-two-requires : tie.Need-put-two-requires
 put-two-requires c κs = search needs
@@ -77,8 +73,8 @@ returns c = let a = c .before .before .before .before .before .before .before .b
     let z = length-drop 16 (a .out .now) in
     let room = c .before .before .before .before .before .before .before .before .before .before .before .before .before .before .pre .1 in
     written-then (line (branch (ifKept (a .k)) (a .place + 2)) F ∷ line (goto (a .set-at + 2)) (F ∪ one (priorIs false) (a .k)) ∷ []) (decide t (a .left) (a .place + 2) (a .set-at) (a .set-at + 2) (factsOf (c .before .before .before .before .learn-prior2 .result))) 2 (decideSize t (a .left)) 16 (a .out .now) _ _
-    refl (length-decide t (rule-out form32 (a .rule .now) (d .sized .0) .ordered) (a .left) _ _ _ _) refl (omega arith)
-    (c .before .before .before .before .before .before .before .put-two .ensures ∙ two-lines _ _ (branch (ifKept (a .k)) (a .place + 2)) (goto (a .set-at + 2)) F (F ∪ one (priorIs false) (a .k)) _ _ (a .out .now) (c .before .before .before .before .before .before .before .before .before .before .code .ensures) refl (c .before .before .before .before .before .before .before .before .before .code2 .ensures) (c .before .before .before .before .before .before .before .before .before .before .before .learn-prior .ensures ∙ add-second F (one (priorIs true) (a .k)) (one (priorIs false) (a .k))))
+    refl (length-decide t (rule-out formIn (a .rule .now) (d .sized .0) .ordered) (a .left) _ _ _ _) refl (omega arith)
+    (c .before .before .before .before .before .before .before .put-two .ensures ∙ two-lines _ _ (branch (ifKept (a .k)) (a .place + 2)) (goto (a .set-at + 2)) F (F ∪ one (priorIs false) (a .k)) _ _ (a .out .now) (c .before .before .before .before .before .before .before .before .before .before .encode .ensures) refl (c .before .before .before .before .before .before .before .before .before .encode2 .ensures) (c .before .before .before .before .before .before .before .before .before .before .before .learn-prior .ensures ∙ add-second F (one (priorIs true) (a .k)) (one (priorIs false) (a .k))))
     (c .before .before .put-decision .ensures)
     ∙ ap (λ G. written (line (branch (ifKept (a .k)) (a .place + 2)) F ∷ line (goto (a .set-at + 2)) (F ∪ one (priorIs false) (a .k)) ∷ decide t (a .left) (a .place + 2) (a .set-at) (a .set-at + 2) G) (a .out .now)) (c .before .before .before .before .learn-prior2 .ensures ∙ add-first F (one (priorIs true) (a .k)) (one (priorIs false) (a .k)))
 
@@ -87,11 +83,10 @@ put-left-spec =
     tie.close
     (tie.spec
     learn-prior-requires
-    cast-code
-    add-code
-    code-requires
-    add-code-2
-    code-requires-2
+    add-encode
+    encode-requires
+    add-encode-2
+    encode-requires-2
     put-two-requires
     learn-prior-requires-2
     add-put-decision

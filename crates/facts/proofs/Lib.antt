@@ -1,0 +1,3 @@
+pub mod FactSetLaws
+pub mod GroupLaws
+pub mod OverLaws

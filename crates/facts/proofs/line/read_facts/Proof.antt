@@ -1,0 +1,47 @@
+-- `facts::line::read_facts` meets its contract: the seven words in the order of `wordNumber` (`FactSetLaws.noted-is`). Assumes nothing.
+use mathlib.Core.Path.{sym, _∙_}
+use mathlib.Core.Bool.{true, false}
+use Rattle.spec.specs.Facts.{valueIs, priorIs, keptIsPrior, workIsNext, workIsPrior, wordNumber}
+use Rattle.spec.proofs.FactLaws.{facts-ext}
+use Rattle.facts.proofs.FactSetLaws.{noted-is}
+use borrow.Author.Needs.{needs}
+use Rattle.facts.proofs.line.read_facts.Statement.{statement}
+use Rattle.facts.proofs.line.read_facts.Tie as tie
+
+read-set-requires : tie.Need-read-set-requires
+read-set-requires c κs = search needs
+
+read-set-requires-2 : tie.Need-read-set-requires-2
+read-set-requires-2 c κs = search needs
+
+read-set-requires-3 : tie.Need-read-set-requires-3
+read-set-requires-3 c κs = search needs
+
+read-set-requires-4 : tie.Need-read-set-requires-4
+read-set-requires-4 c κs = search needs
+
+read-set-requires-5 : tie.Need-read-set-requires-5
+read-set-requires-5 c κs = search needs
+
+read-set-requires-6 : tie.Need-read-set-requires-6
+read-set-requires-6 c κs = search needs
+
+read-set-requires-7 : tie.Need-read-set-requires-7
+read-set-requires-7 c κs = search needs
+
+returns : tie.Need-returns
+unfolding wordNumber
+returns c = facts-ext _ _ (c .before .before .before .before .before .before .read-set .ensures ∙ sym (noted-is (c .before .before .before .before .before .before .before .before .args .script .now) (c .before .before .before .before .before .before .before .before .args .l) (c .before .before .before .before .before .before .before .before .pre) (valueIs true))) (c .before .before .before .before .before .read-set2 .ensures ∙ sym (noted-is (c .before .before .before .before .before .before .before .before .args .script .now) (c .before .before .before .before .before .before .before .before .args .l) (c .before .before .before .before .before .before .before .before .pre) (valueIs false))) (c .before .before .before .before .read-set3 .ensures ∙ sym (noted-is (c .before .before .before .before .before .before .before .before .args .script .now) (c .before .before .before .before .before .before .before .before .args .l) (c .before .before .before .before .before .before .before .before .pre) (priorIs true))) (c .before .before .before .read-set4 .ensures ∙ sym (noted-is (c .before .before .before .before .before .before .before .before .args .script .now) (c .before .before .before .before .before .before .before .before .args .l) (c .before .before .before .before .before .before .before .before .pre) (priorIs false))) (c .before .before .read-set5 .ensures ∙ sym (noted-is (c .before .before .before .before .before .before .before .before .args .script .now) (c .before .before .before .before .before .before .before .before .args .l) (c .before .before .before .before .before .before .before .before .pre) keptIsPrior)) (c .before .read-set6 .ensures ∙ sym (noted-is (c .before .before .before .before .before .before .before .before .args .script .now) (c .before .before .before .before .before .before .before .before .args .l) (c .before .before .before .before .before .before .before .before .pre) workIsNext)) (c .read-set7 .ensures ∙ sym (noted-is (c .before .before .before .before .before .before .before .before .args .script .now) (c .before .before .before .before .before .before .before .before .args .l) (c .before .before .before .before .before .before .before .before .pre) workIsPrior))
+
+pub read-facts-spec : {M : Type 1} → statement M
+read-facts-spec =
+    tie.close
+    (tie.spec
+    read-set-requires
+    read-set-requires-2
+    read-set-requires-3
+    read-set-requires-4
+    read-set-requires-5
+    read-set-requires-6
+    read-set-requires-7
+    returns)

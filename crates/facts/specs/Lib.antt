@@ -1,0 +1,2 @@
+pub mod FactSets
+pub mod Written

@@ -1,0 +1,41 @@
+// An instruction's word, read and written: only here is it known where its fields stand.
+ghost use mathlib.Core.Path.{_≡_};
+ghost use Prim.Native.Nat.{_<_, _/_};
+ghost use lib.ListN.{length};
+ghost use Rattle.spec.specs.Script.{fields, fieldsOf, wordOf};
+ghost use Rattle.script.specs.Lines.{fieldsIn, FieldsSmall, wordAt};
+
+// An instruction. `c` is a constant, or names a register or a node.
+pub struct Instruction {
+    pub opcode: u32,
+    pub r: usize,
+    pub c: usize,
+    pub target: usize,
+}
+
+pub fn decode(word: u32) -> Instruction
+    ensures fields { λ x. ⌜ fieldsIn x ≡ fieldsOf word ⌝ }
+    ensures small { λ x. ⌜ FieldsSmall (fieldsIn x) ⌝ }
+{
+    Instruction {
+        opcode: word / 268435456 % 16,
+        r: (word / 16777216 % 16) as usize,
+        c: (word / 1024 % 16384) as usize,
+        target: (word % 1024) as usize,
+    }
+}
+
+pub fn encode(opcode: u32, r: usize, c: usize, target: usize) -> u32
+    requires { ⌜ FieldsSmall (fields opcode r c target) ⌝ }
+    ensures { λ w. ⌜ w ≡ wordOf (fields opcode r c target) ⌝ }
+{
+    opcode * 268435456 + r as u32 * 16777216 + c as u32 * 1024 + target as u32
+}
+
+// The instruction's word of line l of an annotated script.
+pub fn line_word(script: &[u32], l: usize) -> u32
+    requires { ⌜ l < length (now script) / 8 ⌝ }
+    ensures { λ r. ⌜ r ≡ wordAt (now (script .entry)) l ⌝ }
+{
+    script[8 * l]
+}
