@@ -12,6 +12,7 @@ use lib.ListN.{length, getD, take, drop}
 use lib.Seq.{getD-drop, getD-take}
 use lib.Dec.{eqb}
 use borrow.Author.Tests.{eq-eqb}
+use Rattle.spec.specs.Rule.{Form}
 use Rattle.spec.specs.Facts.{Fact, valueIs, priorIs, keptIsPrior, workIsNext, workIsPrior, wordNumber, Facts, _∪_, only, one, provided, amongBelow}
 use Rattle.spec.specs.Check.{lineAt, nodesIn, factsRead, lineRead, linesOf}
 use Rattle.spec.proofs.BoolLaws.{bool-ext}
@@ -19,7 +20,6 @@ use Rattle.spec.proofs.FactLaws.{by-fact, among-in, among-out}
 use Rattle.spec.proofs.StoredLaws.{line-of}
 use Rattle.sets.specs.Sets.{Nodes, capacity, adding, within}
 use Rattle.sets.proofs.SetLaws.{adding-is}
-use Rattle.rule.specs.Nodes.{formIn}
 
 -- ---- the facts of a stored line
 
@@ -33,12 +33,12 @@ number-small : (f : Fact) → wordNumber f < 7
 unfolding wordNumber
 number-small = by-fact (λ f. wordNumber f < 7) (omega arith) (omega arith) (omega arith) (omega arith) (omega arith) (omega arith) (omega arith)
 
-pub noted-is : (ws : List ℕ) (l : ℕ) → l < length ws / 8 → (f : Fact)
-    → lineAt (linesOf formIn ws) l .annotation f ≡ nodesIn (formIn .width) (getD ws (8 * l + 1 + wordNumber f) 0)
+pub noted-is : (form : Form) (ws : List ℕ) (l : ℕ) → l < length ws / 8 → (f : Fact)
+    → lineAt (linesOf form ws) l .annotation f ≡ nodesIn (form .width) (getD ws (8 * l + 1 + wordNumber f) 0)
 unfolding lineRead factsRead
-noted-is ws l h f =
-    ap (λ x. x .annotation f) (line-of formIn ws l h)
-    ∙ ap (nodesIn (formIn .width)) (word-at ws l (wordNumber f) (number-small f))
+noted-is form ws l h f =
+    ap (λ x. x .annotation f) (line-of form ws l h)
+    ∙ ap (nodesIn (form .width)) (word-at ws l (wordNumber f) (number-small f))
 
 -- ---- what is known of a node
 

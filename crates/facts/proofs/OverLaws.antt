@@ -1,99 +1,90 @@
--- Words written at the start of an output, one part after another.
---     eight-set                      eight stores are eight words first
---     over-then                      words written into the part after those already written
---     written-then                   lines written so
---     words-append, stored-line      the words of lines
---     length-stored                  a line has eight words
+-- Lines written into the output of either stored form.
+--     set-read, set-word, first-word    a word of a stored line, read and written
+--     words-append, stored-line, length-stored    the words of lines
+--     written-then, written-none        lines, and more lines after them
+--     one-line, two-lines               a line and two lines by their words
+--     written-as                        the same lines
 -- Assumes nothing.
-use mathlib.Core.Path.{_≡_, refl, sym, ap, ap₂, _∙_}
+use mathlib.Core.Path.{_≡_, refl, sym, subst, ap, ap₂, _∙_}
+use mathlib.Core.Bool.{Bool, true, false}
 use mathlib.Core.List.{List, [], _∷_, _++_, append-assoc, append-nil}
-use Prim.Native.Nat.{ℕ, _+_, _-_, _*_, _≤_, _<_}
+use Prim.Native.Nat.{ℕ, _+_, _*_, _^_, _≤_, _<_}
 use native.Mathlib.Omega.{arith}
-use lib.ListN.{length, take, drop, set, length-append, length-drop, drop-of-length-le}
-use lib.Seq.{drop-drop, take-at, drop-at, take-all}
+use lib.ListN.{length, getD, List·getD-map}
+use lib.Pow.{shl-shr}
+use Rattle.spec.specs.Rule.{Form, form32, form64}
 use Rattle.spec.specs.Script.{Instruction, wordFor}
 use Rattle.spec.specs.Facts.{Facts}
 use Rattle.spec.specs.Check.{Lines, lineWords, wordsOf}
 use Rattle.spec.specs.Weaver.{line}
 use Rattle.spec.proofs.StoredLaws.{length-words}
-use Rattle.facts.specs.Written.{storedLine, over, written}
-use Rattle.rule.specs.Nodes.{formIn}
+use Rattle.moves.specs.Moves.{widenWord}
+use Rattle.sets.specs.Sets.{setOf}
+use Rattle.sets.proofs.WordLaws.{word-up, word-down, word-whole}
+use Rattle.rule.specs.Nodes.{formBy, storedIn, wordsIn, wordBy, Put}
+use Rattle.rule.proofs.PutLaws.{put-then, put-none}
+use Rattle.facts.specs.Written.{nodesRead, setStored, storedLine, Written}
 
-pub eight-set : (o : List ℕ) → 8 ≤ length o → (a b c d e f g h : ℕ)
-    → set (set (set (set (set (set (set (set o 0 a) 1 b) 2 c) 3 d) 4 e) 5 f) 6 g) 7 h ≡ over (a ∷ b ∷ c ∷ d ∷ e ∷ f ∷ g ∷ h ∷ []) o
-eight-set [] l a b c d e f g h = absurd (omega arith)
-eight-set (_ ∷ []) l a b c d e f g h = absurd (omega arith)
-eight-set (_ ∷ _ ∷ []) l a b c d e f g h = absurd (omega arith)
-eight-set (_ ∷ _ ∷ _ ∷ []) l a b c d e f g h = absurd (omega arith)
-eight-set (_ ∷ _ ∷ _ ∷ _ ∷ []) l a b c d e f g h = absurd (omega arith)
-eight-set (_ ∷ _ ∷ _ ∷ _ ∷ _ ∷ []) l a b c d e f g h = absurd (omega arith)
-eight-set (_ ∷ _ ∷ _ ∷ _ ∷ _ ∷ _ ∷ []) l a b c d e f g h = absurd (omega arith)
-eight-set (_ ∷ _ ∷ _ ∷ _ ∷ _ ∷ _ ∷ _ ∷ []) l a b c d e f g h = absurd (omega arith)
-eight-set (_ ∷ _ ∷ _ ∷ _ ∷ _ ∷ _ ∷ _ ∷ _ ∷ o) l a b c d e f g h = refl
+-- ---- a word of a stored line
 
--- a store changes no length
-pub set-in : (o p : List ℕ) (i : ℕ) → length p ≡ length o → 8 ≤ length o → i < 8 → i < length p
-set-in o p i e h l = omega arith
+pub set-read : (b : Bool) (narrow wide : List ℕ) (i : ℕ) → setOf (getD (wordsIn b narrow wide) i 0) ≡ nodesRead b (getD (storedIn b narrow wide) i 0)
+unfolding form32 form64
+set-read true narrow wide i = refl
+set-read false narrow wide i = ap setOf (List·getD-map widenWord narrow i 0) ∙ word-up (getD narrow i 0)
 
-pub length-over : (a o : List ℕ) → length a ≤ length o → length (over a o) ≡ length o
-length-over a o h = length-append a (drop (length a) o) ∙ ap (λ n. length a + n) (length-drop (length a) o) ∙ omega arith
+pub set-word : (b : Bool) (s : ℕ) → s < 2 ^ 64 → wordBy b s ≡ setStored b s
+unfolding form32 form64
+set-word true s h = word-whole s h
+set-word false s h = word-down s h
 
--- the part from n on
-pub part-length : (n : ℕ) (o : List ℕ) → length (take (length o - n) (drop n o)) ≡ length o - n
-part-length n o = ap length (take-all (length o - n) (drop n o) (rw length-drop (omega arith))) ∙ length-drop n o
+pub first-word : (b : Bool) (w : ℕ) → wordBy b (widenWord w) ≡ formBy b .storeFirst w
+unfolding form32 form64
+first-word true w = refl
+first-word false w = shl-shr w 32
 
-pub part-of : (n : ℕ) (o1 o : List ℕ) → length o1 ≡ length o → length (take (length o1 - n) (drop n o1)) ≡ length o - n
-part-of n o1 o e = part-length n o1 ∙ ap (λ m. m - n) e
+-- ---- the words of lines
 
--- a, then b into the part after it
-module _ (a b o : List ℕ) (n : ℕ) (en : n ≡ length a) (room : length a + length b ≤ length o) where
-  front : take n (over a o) ≡ a
-  front = rw en (take-at a (drop (length a) o) (length a) refl)
-
-  rest : drop n (over a o) ≡ drop (length a) o
-  rest = rw en (drop-at a (drop (length a) o) (length a) refl)
-
-  all : take (length (over a o) - n) (drop n (over a o)) ≡ drop n (over a o)
-  all = take-all (length (over a o) - n) (drop n (over a o)) (rw length-drop (omega arith))
-
-  past : drop (length (over a o) - n) (drop n (over a o)) ≡ []
-  past = drop-of-length-le (drop n (over a o)) {i = length (over a o) - n} (rw length-drop (omega arith))
-
-  later : drop (length b) (drop (length a) o) ≡ drop (length (a ++ b)) o
-  later = drop-drop (length b) (length a) o ∙ ap (λ i. drop i o) (sym (length-append a b))
-
-  -- what stands after the call in the output, of which the part from n on was lent
-  abbrev put : (o1 p : List ℕ) → List ℕ
-  put o1 p = take n o1 ++ (p ++ drop (length o1 - n) (drop n o1))
-
-  whole : put (over a o) (over b (take (length (over a o) - n) (drop n (over a o)))) ≡ over (a ++ b) o
-  whole = rw (past, append-nil (over b (take (length (over a o) - n) (drop n (over a o)))), front, all, rest, later) (sym (append-assoc a b (drop (length (a ++ b)) o)))
-
-  pub over-then : (a′ b′ o1 p : List ℕ) → a′ ≡ a → o1 ≡ over a′ o → b′ ≡ b → p ≡ over b′ (take (length o1 - n) (drop n o1)) → put o1 p ≡ over (a ++ b) o
-  over-then a′ b′ o1 p ea e1 eb e2 =
-      let f : o1 ≡ over a o = e1 ∙ ap (λ x. over x o) ea in
-      ap₂ put f (e2 ∙ ap₂ (λ x y. over x (take (length y - n) (drop n y))) eb f) ∙ whole
-
-pub words-append : (ls ms : Lines) → wordsOf formIn (ls ++ ms) ≡ wordsOf formIn ls ++ wordsOf formIn ms
+pub words-append : (form : Form) (ls ms : Lines) → wordsOf form (ls ++ ms) ≡ wordsOf form ls ++ wordsOf form ms
 unfolding wordsOf
-words-append [] ms = refl
-words-append (x ∷ ls) ms = ap (λ ws. lineWords formIn x ++ ws) (words-append ls ms) ∙ sym (append-assoc (lineWords formIn x) (wordsOf formIn ls) (wordsOf formIn ms))
+words-append form [] ms = refl
+words-append form (x ∷ ls) ms =
+    ap (λ ws. lineWords form x ++ ws) (words-append form ls ms) ∙ sym (append-assoc (lineWords form x) (wordsOf form ls) (wordsOf form ms))
 
--- lines, then more lines into the part after them
-pub written-then : (ls ms : Lines) (a b n : ℕ) (o o1 p : List ℕ) → length ls ≡ a → length ms ≡ b → n ≡ 8 * a → 8 * (a + b) ≤ length o
-    → o1 ≡ written ls o → p ≡ written ms (take (length o1 - n) (drop n o1)) → take n o1 ++ (p ++ drop (length o1 - n) (drop n o1)) ≡ written (ls ++ ms) o
-written-then ls ms a b n o o1 p la lb en room e1 e2 =
-    let wa = length-words formIn ls in
-    let wb = length-words formIn ms in
-    let en′ : n ≡ length (wordsOf formIn ls) = omega arith in
-    let room′ : length (wordsOf formIn ls) + length (wordsOf formIn ms) ≤ length o = omega arith in
-    over-then (wordsOf formIn ls) (wordsOf formIn ms) o n en′ room′ (wordsOf formIn ls) (wordsOf formIn ms) o1 p refl e1 refl e2
-    ∙ ap (λ ws. over ws o) (sym (words-append ls ms))
-
-pub stored-line : (w : ℕ) (i : Instruction) (F : Facts) → w ≡ wordFor i → storedLine w F ≡ wordsOf formIn (line i F ∷ [])
+pub stored-line : (b : Bool) (w : ℕ) (i : Instruction) (F : Facts) → w ≡ wordFor i → storedLine b w F ≡ wordsOf (formBy b) (line i F ∷ [])
 unfolding storedLine wordsOf lineWords
-stored-line w i F e = ap (λ v. storedLine v F) e ∙ sym (append-nil (storedLine (wordFor i) F))
+stored-line b w i F e = ap (λ v. storedLine b v F) e ∙ sym (append-nil (storedLine b (wordFor i) F))
 
-pub length-stored : (w : ℕ) (F : Facts) → length (storedLine w F) ≡ 8
+pub length-stored : (b : Bool) (w : ℕ) (F : Facts) → length (storedLine b w F) ≡ 8
 unfolding storedLine
-length-stored w F = refl
+length-stored b w F = refl
+
+-- ---- lines written
+
+pub written-then : (b : Bool) (p q : ℕ) (ls ms : Lines) (n w n₁ w₁ n₂ w₂ : List ℕ) → q ≡ p + length ls → 8 * q ≤ length (storedIn b n w)
+    → Written b p ls n w n₁ w₁ → Written b q ms n₁ w₁ n₂ w₂ → Written b p (ls ++ ms) n w n₂ w₂
+written-then b p q ls ms n w n₁ w₁ n₂ w₂ e room f g =
+    let form = formBy b in
+    let wa = length-words form ls in
+    let eq : 8 * q ≡ 8 * p + length (wordsOf form ls) = omega arith in
+    let room′ : 8 * p + length (wordsOf form ls) ≤ length (storedIn b n w) = omega arith in
+    rw (words-append form ls ms) (put-then b (8 * p) (8 * q) (wordsOf form ls) (wordsOf form ms) n w n₁ w₁ n₂ w₂ eq room′ f g)
+
+pub written-none : (b : Bool) (p : ℕ) (n w : List ℕ) → Written b p [] n w n w
+unfolding wordsOf
+written-none b p n w = put-none b (8 * p) n w
+
+pub written-as : (b : Bool) (p : ℕ) (ls ms : Lines) (n w n′ w′ : List ℕ) → ls ≡ ms → Written b p ls n w n′ w′ → Written b p ms n w n′ w′
+written-as b p ls ms n w n′ w′ e h = subst (λ (x : Lines). Written b p x n w n′ w′) e h
+
+-- a line by its word, its facts known by another name
+pub one-line : (b : Bool) (p : ℕ) (n w n′ w′ : List ℕ) (v : ℕ) (i : Instruction) (F G : Facts) → v ≡ wordFor i → G ≡ F
+    → Put b (8 * p) (storedLine b v G) n w n′ w′ → Written b p (line i F ∷ []) n w n′ w′
+one-line b p n w n′ w′ v i F G e d h =
+    subst (λ ws. Put b (8 * p) ws n w n′ w′) (ap (storedLine b v) d ∙ stored-line b v i F e) h
+
+pub two-lines : (b : Bool) (p : ℕ) (n w n′ w′ : List ℕ) (u v : ℕ) (i j : Instruction) (F G F′ G′ : Facts) → u ≡ wordFor i → F′ ≡ F → v ≡ wordFor j → G′ ≡ G
+    → Put b (8 * p) (storedLine b u F′ ++ storedLine b v G′) n w n′ w′ → Written b p (line i F ∷ line j G ∷ []) n w n′ w′
+two-lines b p n w n′ w′ u v i j F G F′ G′ eu eF ev eG h =
+    subst (λ ws. Put b (8 * p) ws n w n′ w′)
+    (ap₂ _++_ (ap (storedLine b u) eF ∙ stored-line b u i F eu) (ap (storedLine b v) eG ∙ stored-line b v j G ev)
+    ∙ sym (words-append (formBy b) (line i F ∷ []) (line j G ∷ []))) h

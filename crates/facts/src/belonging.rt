@@ -23,7 +23,7 @@ pub struct Groups {
     pub weak: u64,
 }
 
-pub fn group(rule: &[u32]) -> Groups
+pub fn group(rule: &[u64]) -> Groups
     requires { ⌜ length (now rule) ≤ capacity ⌝ }
     ensures nodes { λ r. ⌜ setOf (r .nodes) ≡ (λ k. ltb k (length (tableIn (now (rule .entry))))) ⌝ }
     ensures sinces { λ r. ⌜ setOf (r .sinces) ≡ (λ k. isSince (nodeAt (tableIn (now (rule .entry))) k)) ⌝ }
@@ -47,13 +47,14 @@ pub fn group(rule: &[u32]) -> Groups
 }
 
 // Every fact where it belongs.
-pub fn belonging(rule: &[u32]) -> Facts
+pub fn belonging(rule: &[u64]) -> Facts
     requires { ⌜ length (now rule) ≤ capacity ⌝ }
     ensures { λ r. ⌜ factsOf r ≡ belongs (tableIn (now (rule .entry))) ⌝ }
 {
     let g = group(rule);
     let past = union(g.sinces, g.weak);
-    let work = union(past, used_twice(rule));
+    let none = [0u32; 1];
+    let work = union(past, used_twice(&none, rule, true));
     Facts {
         t: g.nodes,
         f: g.nodes,

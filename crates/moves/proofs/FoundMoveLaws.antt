@@ -20,7 +20,7 @@ use Rattle.largest.specs.Notes.{notesOf}
 use Rattle.largest.specs.Largest.{countFacts, search, checkInstructions, foundLines, question19, checkFound, foundWords, foundCount, foundAnswer, foundOutput}
 use Rattle.moves.specs.Moves.{widenRule, widenWord, widenScript, narrowScript}
 use Rattle.spec.proofs.BoolLaws.{clash, le-or-lt}
-use Rattle.spec.proofs.QuestionLaws.{both-passed}
+use Rattle.spec.proofs.QuestionLaws.{both-passed, then-assoc}
 use Rattle.spec.proofs.RuleLaws.{InOrder}
 use Rattle.spec.proofs.FactLaws.{belongs-in}
 use Rattle.largest.proofs.CountLaws.{count-narrow}
@@ -52,11 +52,6 @@ module _ (t : Table) (ordered : InOrder t) (code : Code) where
       ]
 
 -- ---- what is found
-
-then-assoc : {A : Type 0} (a b : Checked) (c : Answer A) → ((a then b) then c) ≡ (a then (b then c))
-unfolding _then_
-then-assoc (passed u) b c = refl
-then-assoc (refused q i) b c = refl
 
 -- what comes after a question need only be the same after a yes
 then-same : {A : Type 0} (a : Checked) (b c : Answer A) → (a ≡ passed tt → b ≡ c) → (a then b) ≡ (a then c)

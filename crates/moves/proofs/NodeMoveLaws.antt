@@ -1,7 +1,7 @@
 -- A rule moved between the stored forms (`specs/Moves.antt`) is the same rule.
 --     fields-widen, table-widen, check-widen     a node's fields, the table, the answer to questions 1 to 4
 --     check-many                   a rule of the old form that is too long to move
---     Narrow, narrowable           a rule that passes and has at most 32 nodes has fields that the old form has space for
+--     narrowable                   a rule that passes and has at most 32 nodes has fields that the old form has space for
 --     widen-narrow, narrow-widen   there and back, word by word
 --     rule-there, rule-again       and for rules
 --     widen-bits, narrow-bits      moved words are words of the form moved to
@@ -17,7 +17,7 @@ use lib.Dec.{eqb, leb, ltb}
 use borrow.Author.Tests.{le-leb, lt-leb, lt-ltb, eqb-true}
 use Rattle.spec.specs.Questions.{all, passed, refused, _then_, ask}
 use Rattle.spec.specs.Rule.{NodeFields, nodeFields, nodeWord, nodeFields64, nodeWord64, form32, form64, falseNode, byKind, nodeOf, tableOf, operands, unusedZero, nodeAllowed, fieldsFit, question1, question2, question3, question4, checkRule}
-use Rattle.moves.specs.Moves.{widenNode, narrowNode, widenRule, narrowRule}
+use Rattle.moves.specs.Moves.{Narrow, widenNode, narrowNode, widenRule, narrowRule}
 use Rattle.moves.specs.Moved.{Bits}
 use Rattle.spec.proofs.BoolLaws.{and-both, or-either}
 use Rattle.spec.proofs.QuestionLaws.{then-refused, once-no}
@@ -75,12 +75,6 @@ check-many rule h =
     then-refused (question1 form32 rule) _ 1 0 (once-no 1 _ (rw (lt-leb (length rule) 32 h, lt-ltb 0 (length rule) (omega arith))))
 
 -- ---- and back
-
--- fields that the old form has space for
-pub record Narrow (f : NodeFields) : Type 0 where
-  pub left-small : f .left < 32
-  pub right-small : f .right < 32
-  pub spare-zero : f .spare ≡ 0
 
 -- a node k ≤ 32 that questions 2 and 3 let pass: an operand is lower than k, or zero
 module _ (f : NodeFields) (k : ℕ) (few : k ≤ 32) (fit : fieldsFit f ≡ true) (lower : all (λ j. ltb j k) (operands (nodeOf f)) ≡ true) where

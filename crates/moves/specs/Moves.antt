@@ -5,12 +5,13 @@
 --     ruleUp, ruleBack, scriptUp, scriptBack                 what each move answers
 --     ruleUpOutput, ruleBackOutput, scriptUpOutput, scriptBackOutput    what the lent output holds then
 -- What is promised of them is in `specs/Moved.antt`.
+use mathlib.Core.Path.{_≡_}
 use mathlib.Core.List.{List, map}
-use Prim.Native.Nat.{ℕ, _*_, _/_, _^_}
+use Prim.Native.Nat.{ℕ, _*_, _/_, _^_, _<_}
 use lib.ListN.{length}
 use lib.Dec.{leb}
 use Rattle.spec.specs.Questions.{Answer, passed, Checked, _then_, askOnce}
-use Rattle.spec.specs.Rule.{Form, form32, form64, tableOf, checkRule}
+use Rattle.spec.specs.Rule.{NodeFields, Form, form32, form64, tableOf, checkRule}
 use Rattle.spec.specs.Script.{annotatedOpcode, checkCode}
 use Rattle.spec.specs.Check.{lineLength, linesOf, annotatedStored, question8}
 use Rattle.spec.specs.Weaver.{roomForLines, outputFor}
@@ -24,6 +25,12 @@ widenNode w = form64 .storeNode (form32 .readNode w)
 
 unfoldable pub narrowNode : ℕ → ℕ
 narrowNode w = form32 .storeNode (form64 .readNode w)
+
+-- fields that the old form has space for
+pub record Narrow (f : NodeFields) : Type 0 where
+  pub left-small : f .left < 32
+  pub right-small : f .right < 32
+  pub spare-zero : f .spare ≡ 0
 
 -- a word of a line, instruction or facts: the old form's is the upper half, for node 0 is the most significant bit in both
 abbrev pub widenWord : ℕ → ℕ

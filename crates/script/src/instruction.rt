@@ -1,8 +1,11 @@
 // An instruction's word, read and written: only here is it known where its fields stand.
+use rule::stored::word_at;
 ghost use mathlib.Core.Path.{_≡_};
 ghost use Prim.Native.Nat.{_<_, _/_};
 ghost use lib.ListN.{length};
 ghost use Rattle.spec.specs.Script.{fields, fieldsOf, wordOf};
+ghost use Rattle.moves.specs.Moves.{narrowWord};
+ghost use Rattle.rule.specs.Nodes.{storedIn};
 ghost use Rattle.script.specs.Lines.{fieldsIn, FieldsSmall, wordAt};
 
 // An instruction. `c` is a constant, or names a register or a node.
@@ -32,10 +35,17 @@ pub fn encode(opcode: u32, r: usize, c: usize, target: usize) -> u32
     opcode * 268435456 + r as u32 * 16777216 + c as u32 * 1024 + target as u32
 }
 
-// The instruction's word of line l of an annotated script.
-pub fn line_word(script: &[u32], l: usize) -> u32
-    requires { ⌜ l < length (now script) / 8 ⌝ }
-    ensures { λ r. ⌜ r ≡ wordAt (now (script .entry)) l ⌝ }
+// The instruction's word in a line's first word, read as 64 bits: the upper half.
+pub fn upper_half(first: u64) -> u32
+    ensures { λ r. ⌜ r ≡ narrowWord first ⌝ }
 {
-    script[8 * l]
+    (first / 4294967296) as u32
+}
+
+// The instruction's word of line l of an annotated script.
+pub fn line_word(narrow: &[u32], wide: &[u64], is_wide: bool, l: usize) -> u32
+    requires { ⌜ l < length (storedIn «is_wide» (now narrow) (now wide)) / 8 ⌝ }
+    ensures { λ r. ⌜ r ≡ wordAt «is_wide» (now (narrow .entry)) (now (wide .entry)) l ⌝ }
+{
+    upper_half(word_at(narrow, wide, is_wide, 8 * l))
 }

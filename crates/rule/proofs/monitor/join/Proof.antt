@@ -13,4 +13,9 @@ returns : tie.Need-returns
 returns c = λ i. record { values = c .before .with-if .ensures i; priors = c .with-if2 .ensures i }
 
 pub join-spec : {M : Type 1} → statement M
-join-spec = tie.close (tie.spec with-if-requires with-if-requires-2 returns)
+join-spec =
+    tie.close
+    (tie.spec
+    with-if-requires
+    with-if-requires-2
+    returns)

@@ -1,28 +1,30 @@
--- `script::instruction::line_word` meets its contract: a line's first word is its instruction's. Assumes nothing.
-use mathlib.Core.Path.{refl}
-use Rattle.spec.specs.Rule.{form32}
+-- `script::instruction::line_word` meets its contract: the upper half of the line's first word (`LineLaws`). Assumes nothing.
+use mathlib.Core.Path.{ap, _∙_}
+use Rattle.moves.specs.Moves.{narrowWord}
+use Rattle.rule.proofs.EitherLaws.{size-most}
+use Rattle.script.proofs.LineLaws.{word-half}
+use native.Mathlib.Omega.{arith}
 use borrow.Author.Needs.{needs}
 use Rattle.script.proofs.instruction.line_word.Statement.{statement}
 use Rattle.script.proofs.instruction.line_word.Tie as tie
 
-mul-result : tie.Need-mul-result
-mul-result c = search needs
+mul-word-at : tie.Need-mul-word-at
+mul-word-at c = let most = size-most (c .before .before .args .is-wide) (c .before .before .args .narrow .now) (c .before .before .args .wide .now) 4611686018427387904 (omega (arith, c .before .before .good)) (omega (arith, c .before .before .good)) in omega arith
 
-mul-result-2 : tie.Need-mul-result-2
-mul-result-2 c = search needs
+word-at-requires : tie.Need-word-at-requires
+word-at-requires c κs = omega arith
 
-shared-slice-read-result : tie.Need-shared-slice-read-result
-shared-slice-read-result c = search needs
+upper-half-requires : tie.Need-upper-half-requires
+upper-half-requires c κs = search needs
 
 returns : tie.Need-returns
-unfolding form32
-returns c = refl
+returns c = c .upper-half .ensures ∙ ap narrowWord (c .before .word-at .ensures) ∙ word-half (c .before .before .before .before .args .is-wide) (c .before .before .before .before .args .narrow .now) (c .before .before .before .before .args .wide .now) (c .before .before .before .before .args .l)
 
 pub line-word-spec : {M : Type 1} → statement M
 line-word-spec =
     tie.close
     (tie.spec
-    mul-result
-    mul-result-2
-    shared-slice-read-result
+    mul-word-at
+    word-at-requires
+    upper-half-requires
     returns)
