@@ -13,5 +13,6 @@ pub mod NodeLaws
 pub mod MentionLaws
 pub mod TableLaws
 pub mod TextLaws
+pub mod FormLaws
 pub mod TextCompute
 pub mod TextCases

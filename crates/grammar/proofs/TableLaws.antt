@@ -1,7 +1,9 @@
 -- The words of a formula's table (`specs/Nodes.antt`), in any stored form.
 --     SmallTests                   the formula's tests fit a node
+--     length-words                 as many words as nodes
 --     table-words, rule-words      the words are read back as the table, and so stand for the formula
 --     words-accepted               and questions 1 to 4 let them pass
+--     words-moved                  moved to another form they are the words of that form
 -- Assumes nothing.
 use mathlib.Core.Path.{_≡_, refl, ap, ap₂, _∙_}
 use mathlib.Core.Bool.{true, _&&_}
@@ -99,6 +101,10 @@ small-nodes (weakPrevious φ) k width s h =
 
 -- ---- the words
 
+pub length-words : (form : Form) (φ : Formula) → length (ruleWords form φ) ≡ size φ
+unfolding ruleWords
+length-words form φ = length-map (nodesFrom 0 φ) (wordOfNode form) ∙ length-nodes φ 0
+
 module _ (form : Form) (good : GoodForm form) where
   read-word : (x : Node) → SmallNode (form .width) x → form .readNode (wordOfNode form x) ≡ fieldsOfNode x
   unfolding wordOfNode
@@ -109,14 +115,16 @@ module _ (form : Form) (good : GoodForm form) where
   read-words [] s = refl
   read-words (x ∷ t) s = ap₂ _∷_ (ap nodeOf (read-word x (s .0)) ∙ node-fields x) (read-words t (s .1))
 
+  moved-words : (to : Form) (t : Table) → AllSmall (form .width) t
+      → map (λ w. to .storeNode (form .readNode w)) (map (wordOfNode form) t) ≡ map (wordOfNode to) t
+  unfolding wordOfNode
+  moved-words to [] s = refl
+  moved-words to (x ∷ t) s = ap₂ _∷_ (ap (to .storeNode) (read-word x (s .0))) (moved-words to t (s .1))
+
   words-fit : (t : Table) → AllSmall (form .width) t → (k : ℕ) → k < length t → fieldsFit (form .readNode (getD (map (wordOfNode form) t) k 0)) ≡ true
   words-fit [] s k h = absurd (omega arith)
   words-fit (x ∷ t) s zero h = ap fieldsFit (read-word x (s .0)) ∙ fields-fit x (s .0 .allowed)
   words-fit (x ∷ t) s (suc k) h = words-fit t (s .1) k (omega arith)
-
-  pub length-words : (φ : Formula) → length (ruleWords form φ) ≡ size φ
-  unfolding ruleWords
-  length-words φ = length-map (nodesFrom 0 φ) (wordOfNode form) ∙ length-nodes φ 0
 
   module _ (φ : Formula) (small : SmallTests φ) (few : size φ ≤ form .width) where
     all-small : AllSmall (form .width) (nodesFrom 0 φ)
@@ -132,7 +140,7 @@ module _ (form : Form) (good : GoodForm form) where
     one : question1 form (ruleWords form φ) ≡ passed tt
     unfolding question1
     one =
-        let l = length-words φ in
+        let l = length-words form φ in
         let p = size-some φ in
         once-in 1 _ (both-and (lt-ltb 0 (length (ruleWords form φ)) (omega arith)) (le-leb (length (ruleWords form φ)) (form .width) (omega arith)))
 
@@ -153,3 +161,8 @@ module _ (form : Form) (good : GoodForm form) where
     unfolding checkRule
     words-accepted =
         then-passed _ _ one ∙ then-passed _ _ two ∙ then-passed _ _ (ap question3 table-words ∙ three) ∙ (ap question4 table-words ∙ four)
+
+    -- a word is moved by reading its fields and storing them in the other form
+    pub words-moved : (to : Form) → map (λ w. to .storeNode (form .readNode w)) (ruleWords form φ) ≡ ruleWords to φ
+    unfolding ruleWords
+    words-moved to = moved-words to (nodesFrom 0 φ) all-small

@@ -2,7 +2,9 @@
 --     text-promise      for any stored form
 --     text-promise32    for document 01's
 --     text-promise64    for 2026-07's
---     writing-in, writing-many, writing-few      questions 18 and 13 of a formula
+--     opened-small                               the opened formula of a text in range fits a table
+--     texting-asked                              what is left after questions 16 and 17,
+--     writing-in, writing-many, writing-few, writing-out      questions 18 and 13 of a formula
 --     count-refused, count-passed                an answer by its count
 --     refused-16                                 a no of question 16 has this number
 -- Assumes nothing.
@@ -54,7 +56,7 @@ operator-small andWord φ ψ s t = ((s, (t, tt)), tt)
 operator-small orWord φ ψ s t = ((s, tt), t)
 operator-small impliesWord φ ψ s t = (s, t)
 
-opened-small : (φ : TextFormula) → InRange φ → SmallTests (opened φ)
+pub opened-small : (φ : TextFormula) → InRange φ → SmallTests (opened φ)
 unfolding opened
 opened-small (constant true) r = (tt, tt)
 opened-small (constant false) r = tt
@@ -91,28 +93,11 @@ pub count-passed : (a : Answer (List ℕ)) (n : ℕ) → countOf a ≡ passed n 
 count-passed (passed ws) n e = (ws, refl, cc)
 count-passed (refused p j) n e = let z : _≡_ {A = ℕ} 0 1 = cc in absurd (omega arith)
 
--- ---- the table
+-- ---- 18 and 13
 
-module _ (form : Form) (good : GoodForm form) where
-  table-for : (φ : TextFormula) → InRange φ → size (opened φ) ≤ form .width → TableFor form φ (ruleWords form (opened φ))
-  table-for φ r few =
-      let small = opened-small φ r in
-      let t = tableOf form (ruleWords form (opened φ)) in
-      let e = rule-words form good (opened φ) small few in
-      record {
-        nodes = length-words form good (opened φ);
-        accepted = words-accepted form good (opened φ) small few;
-        rule = e;
-        verdict = λ σ. judged σ φ (verdictOn t σ) (subst (λ ψ. VerdictMeans σ ψ (verdictOn t σ)) e (verdict-means t σ));
-      }
-
-  -- after 16 and 17
-  text-writing : (bs : List ℕ) (φ : TextFormula) → IsText bs φ → InRange φ → (lent : ℕ) → texting form lent bs ≡ writing form lent (opened φ)
-  unfolding texting
-  text-writing bs φ x r lent =
-      then-passed _ _ (text-passes bs φ x) ∙ then-passed _ _ (ranges-agree bs φ x .1 r) ∙ ap (λ ψ. writing form lent (opened ψ)) (text-formula bs φ x)
-
-  writing-out : (lent : ℕ) (φ : Formula) (ws : List ℕ) → writing form lent φ ≡ passed ws
+module _ (form : Form) where
+  -- both have a yes, and these are the words
+  pub writing-out : (lent : ℕ) (φ : Formula) (ws : List ℕ) → writing form lent φ ≡ passed ws
       → (size φ ≤ form .width) × (size φ ≤ lent) × (ws ≡ ruleWords form φ)
   unfolding writing
   writing-out lent φ ws e =
@@ -145,6 +130,32 @@ module _ (form : Form) (good : GoodForm form) where
         ]
       ]
 
+-- ---- after 16 and 17
+
+pub texting-asked : (form : Form) (lent : ℕ) (bs : List ℕ) → question16 bs ≡ passed tt → question17 bs ≡ passed tt
+    → texting form lent bs ≡ writing form lent (opened (formulaOf bs))
+unfolding texting
+texting-asked form lent bs q₁₆ q₁₇ = then-passed _ _ q₁₆ ∙ then-passed _ _ q₁₇
+
+-- ---- the table
+
+module _ (form : Form) (good : GoodForm form) where
+  table-for : (φ : TextFormula) → InRange φ → size (opened φ) ≤ form .width → TableFor form φ (ruleWords form (opened φ))
+  table-for φ r few =
+      let small = opened-small φ r in
+      let t = tableOf form (ruleWords form (opened φ)) in
+      let e = rule-words form good (opened φ) small few in
+      record {
+        nodes = length-words form (opened φ);
+        accepted = words-accepted form good (opened φ) small few;
+        rule = e;
+        verdict = λ σ. judged σ φ (verdictOn t σ) (subst (λ ψ. VerdictMeans σ ψ (verdictOn t σ)) e (verdict-means t σ));
+      }
+
+  text-writing : (bs : List ℕ) (φ : TextFormula) → IsText bs φ → InRange φ → (lent : ℕ) → texting form lent bs ≡ writing form lent (opened φ)
+  text-writing bs φ x r lent =
+      texting-asked form lent bs (text-passes bs φ x) (ranges-agree bs φ x .1 r) ∙ ap (λ ψ. writing form lent (opened ψ)) (text-formula bs φ x)
+
   outside-refused : (bs : List ℕ) → ((φ : TextFormula) → IsText bs φ → ⊥) → (lent : ℕ) → (i : ℕ) × (texting form lent bs ≡ refused 16 i)
   unfolding texting
   outside-refused bs none lent = go (question16 bs) refl
@@ -173,7 +184,7 @@ module _ (form : Form) (good : GoodForm form) where
         | inl a ↦ stuck-at bs i a
         | inr (a, b) ↦ elim (then-no (question17 bs) _ 16 i b) [
           | inl c ↦ let z = number17 bs 16 i c in absurd (omega arith)
-          | inr (c, d) ↦ elim (writing-number lent (opened (formulaOf bs)) 16 i d) [ inl z ↦ absurd (omega arith) | inr z ↦ absurd (omega arith) ]
+          | inr (c, d) ↦ elim (writing-number form lent (opened (formulaOf bs)) 16 i d) [ inl z ↦ absurd (omega arith) | inr z ↦ absurd (omega arith) ]
         ]
       ]
 
@@ -184,7 +195,7 @@ module _ (form : Form) (good : GoodForm form) where
         | inl a ↦ let z = number16 bs 17 i a in absurd (omega arith)
         | inr (a, b) ↦ elim (then-no (question17 bs) _ 17 i b) [
           | inl c ↦ let (φ, x) = passes-text bs a in range-at bs φ x i c
-          | inr (c, d) ↦ elim (writing-number lent (opened (formulaOf bs)) 17 i d) [ inl z ↦ absurd (omega arith) | inr z ↦ absurd (omega arith) ]
+          | inr (c, d) ↦ elim (writing-number form lent (opened (formulaOf bs)) 17 i d) [ inl z ↦ absurd (omega arith) | inr z ↦ absurd (omega arith) ]
         ]
       ]
 
@@ -195,7 +206,7 @@ module _ (form : Form) (good : GoodForm form) where
       let (q₁₆, e₁) = both-passed (question16 bs) _ ws e in
       let (q₁₇, e₂) = both-passed (question17 bs) _ ws e₁ in
       let (φ, x) = passes-text bs q₁₆ in
-      let (few, room, same) = writing-out lent (opened φ) ws (sym (ap (λ ψ. writing form lent (opened ψ)) (text-formula bs φ x)) ∙ e₂) in
+      let (few, room, same) = writing-out form lent (opened φ) ws (sym (ap (λ ψ. writing form lent (opened ψ)) (text-formula bs φ x)) ∙ e₂) in
       let t = table-for φ (ranges-agree bs φ x .0 q₁₇) few in
       (φ, x, subst (TableFor form φ) (sym same) t, (let n = t .nodes in let s = ap length same in omega arith))
 
@@ -208,9 +219,9 @@ module _ (form : Form) (good : GoodForm form) where
     stuck-once = stuck-one;
     beyond = beyond-refused;
     out-of-range = range-out;
-    too-many = λ bs φ x r many lent. text-writing bs φ x r lent ∙ writing-many lent (opened φ) many;
-    too-few = λ bs φ x r few lent short. text-writing bs φ x r lent ∙ writing-few lent (opened φ) few short;
-    written = λ bs φ x r few lent room. (ruleWords form (opened φ), text-writing bs φ x r lent ∙ writing-in lent (opened φ) few room);
+    too-many = λ bs φ x r many lent. text-writing bs φ x r lent ∙ writing-many form lent (opened φ) many;
+    too-few = λ bs φ x r few lent short. text-writing bs φ x r lent ∙ writing-few form lent (opened φ) few short;
+    written = λ bs φ x r few lent room. (ruleWords form (opened φ), text-writing bs φ x r lent ∙ writing-in form lent (opened φ) few room);
     table = table-out;
   }
 

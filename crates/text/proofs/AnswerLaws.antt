@@ -1,148 +1,181 @@
 -- What reading a text answers (`specs/Answers.antt`).
---     reads-grammar, reads-range     16 and 17 refuse
---     table-long, reads-many, reads-short, reads-written      18 refuses, 13 refuses, the words are written
---     reads-tell                     and what the answer tells
---     Copied, copied-start, copied-length, copied-next, copied-end      words copied to the start of the output
+--     fills-grammar, fills-range                16 and 17 refuse
+--     fills-many, fills-short, fills-count      18 refuses, 13 refuses, the table has the nodes
+--     filled-words, filled-inside, filled-length, filled-room      the words in the table after a count: they are there, and have room
+--     filled-narrow, narrow-words               narrowed they are the old form's (`proofs/FormLaws.antt`)
+--     Reads, reads-kept, reads-written          what an entry point answers and leaves in the output, and what that tells
 -- Assumes nothing.
 use mathlib.Core.Path.{_≡_, refl, sym, subst, ap, ap₂, _∙_}
 use mathlib.Core.Logic.{inl, inr}
 use mathlib.Core.List.{List, _++_}
-use Prim.Native.Nat.{ℕ, suc, _+_, _-_, _≤_, _<_}
-use native.Mathlib.Numerals.{add-one}
+use Prim.Native.Nat.{ℕ, _≤_, _<_}
 use native.Mathlib.Omega.{arith}
-use lib.ListN.{length, getD, take, drop, set, length-append, length-drop}
-use lib.Seq.{drop-cons, set-at, take-suc, take-append-seam, length-take-le, append-snoc}
-use Rattle.spec.specs.Questions.{Answer, passed, refused, _then_}
-use Rattle.spec.specs.Rule.{form32}
+use lib.ListN.{length, getD, take, drop}
+use lib.Seq.{take-append-seam, length-take-le}
+use Rattle.spec.specs.Logic.{Formula}
+use Rattle.spec.specs.Questions.{Answer, passed, refused}
+use Rattle.spec.specs.Rule.{Form, form32, form64}
 use Rattle.spec.proofs.BoolLaws.{le-or-lt}
 use Rattle.spec.proofs.QuestionLaws.{then-passed, then-refused}
-use Rattle.spec.proofs.StoredLaws.{good32}
+use Rattle.spec.proofs.StoredLaws.{GoodForm}
 use Rattle.grammar.specs.Typed.{opened}
 use Rattle.grammar.specs.Scan.{question16}
 use Rattle.grammar.specs.Reading.{formulaOf}
 use Rattle.grammar.specs.Nodes.{size}
 use Rattle.grammar.specs.TextPromise.{TableFor}
-use Rattle.grammar.specs.Texting.{question17, writing, texting, countOf, outputOf}
+use Rattle.grammar.specs.Texting.{question17, texting, countOf, outputOf}
 use Rattle.grammar.proofs.TableLaws.{length-words}
-use Rattle.grammar.proofs.TextLaws.{writing-in, writing-many, writing-few, count-refused, count-passed, text-promise32}
-use Rattle.text.specs.Progress.{TableOf}
+use Rattle.grammar.proofs.TextLaws.{texting-asked, writing-in, writing-many, writing-few, count-refused, count-passed, text-promise}
+use Rattle.grammar.proofs.FormLaws.{texting-few}
+use Rattle.moves.specs.Moves.{Narrow, narrowRule}
 use Rattle.rule.specs.Answers.{countedOf}
+use Rattle.rule.specs.Nodes.{formIn, fieldsIn}
 use Rattle.rule.specs.declared.answer.Counted.{Counted}
 use Rattle.rule.specs.declared.answer.Counted.the-variants.{Count, Refused}
-use Rattle.text.specs.Answers.{Tells, Reads}
-use Rattle.rule.specs.Nodes.{formIn}
+use Rattle.text.specs.Stacks.{tableLength}
+use Rattle.text.specs.Progress.{TableOf}
+use Rattle.text.specs.Answers.{Tells, Fills}
+use Rattle.text.proofs.FormLaws.{texting-narrow, texting-narrowable}
 
--- ---- words copied
+-- ---- the table
 
--- the first i of n
-pub record Copied (table before : List ℕ) (n : ℕ) (out : List ℕ) (i : ℕ) : Type 0 where
-  pub few : i ≤ n
-  pub words : out ≡ take i table ++ drop i before
+abbrev formula : (text : List ℕ) → Formula
+formula text = opened (formulaOf text)
 
-pub copied-start : (table before : List ℕ) (n : ℕ) → Copied table before n before 0
-copied-start table before n = record { few = omega arith; words = refl }
+module _ {text : List ℕ} {allowed : ℕ} {table : List ℕ} {n : ℕ} (t : TableOf text allowed table n) where
+  counted : size (formula text) ≤ allowed → n ≡ size (formula text)
+  counted h = let a = t .few h .count in let b = length-words formIn (formula text) in omega arith
 
-module _ (table before : List ℕ) (n : ℕ) (out : List ℕ) (i : ℕ) (x : Copied table before n out i) (enough : n ≤ length table) (room : n ≤ length before) where
-  pub copied-length : length out ≡ length before
-  copied-length =
-      let f = x .few in
-      let a = ap length (x .words) in
-      let b = length-append (take i table) (drop i before) in
-      let c = length-take-le i table (omega arith) in
-      let d = length-drop i before in omega arith
+  few : n ≤ allowed → size (formula text) ≤ allowed
+  few h = elim (le-or-lt (size (formula text)) allowed) [ inl k ↦ k | inr k ↦ let z = t .many k in absurd (omega arith) ]
 
-  pub copied-next : i < n → Copied table before n (set out i (getD table i 0)) (i + 1)
-  copied-next h =
-      let v = getD table i 0 in
-      let k : i < length table = omega arith in
-      let l : i < length before = omega arith in
-      record {
-        few = omega arith;
-        words = ap (λ o. set o i v) (x .words) ∙ ap (λ o. set (take i table ++ o) i v) (drop-cons before i 0 l)
-            ∙ set-at (take i table) (getD before i 0) (drop (suc i) before) v i (length-take-le i table (omega arith))
-            ∙ sym (append-snoc (take i table) v (drop (suc i) before)) ∙ ap (λ o. o ++ drop (suc i) before) (sym (take-suc table i 0 k))
-            ∙ ap (λ m. take m table ++ drop m before) (sym (add-one i));
-      }
+  many : allowed < n → allowed < size (formula text)
+  many h = elim (le-or-lt (size (formula text)) allowed) [ inl k ↦ let z = counted k in omega arith | inr k ↦ k ]
 
-  pub copied-end : n ≤ i → out ≡ take n table ++ drop n before
-  copied-end h = let z : i ≡ n = let f = x .few in omega arith in x .words ∙ ap (λ m. take m table ++ drop m before) z
+module _ {text : List ℕ} {allowed lent : ℕ} {table : List ℕ} where
+  -- a no, in each form that allows so many nodes
+  refuses : (q i : ℕ) → ((form : Form) → form .width ≡ allowed → texting form lent text ≡ refused q i)
+      → Fills text allowed lent table (Refused q i)
+  refuses q i refusal = record {
+    answer = λ form w. sym (ap countOf (refusal form w));
+    inside = λ n e. none e;
+    words = λ n e. none e;
+  }
+    where
+      none : {X : Type 0} {n : ℕ} → refused q i ≡ passed n → X
+      none e = let z : _≡_ {A = ℕ} 0 1 = cc in absurd (omega arith)
 
--- ---- the answer
-
-module _ (text before : List ℕ) where
-  abbrev answer : Answer (List ℕ)
-  answer = texting formIn (length before) text
-
-  refuses : (q i : ℕ) → answer ≡ refused q i → Reads text before before (Refused q i)
-  refuses q i e = record { answer = sym (ap countOf e); output = sym (ap (λ a. outputOf a before) e) }
-
-  pub reads-grammar : (q i : ℕ) → refused q i ≡ question16 text → Reads text before before (Refused q i)
+  pub fills-grammar : {q i : ℕ} → refused q i ≡ question16 text → Fills text allowed lent table (Refused q i)
   unfolding texting
-  reads-grammar q i e = refuses q i (then-refused (question16 text) _ q i (sym e))
+  fills-grammar {q} {i} e = refuses q i (λ form w. then-refused (question16 text) _ q i (sym e))
 
   module _ (q₁₆ : question16 text ≡ passed tt) where
-    pub reads-range : (q i : ℕ) → refused q i ≡ question17 text → Reads text before before (Refused q i)
+    pub fills-range : {q i : ℕ} → refused q i ≡ question17 text → Fills text allowed lent table (Refused q i)
     unfolding texting
-    reads-range q i e = refuses q i (then-passed (question16 text) _ q₁₆ ∙ then-refused (question17 text) _ q i (sym e))
+    fills-range {q} {i} e = refuses q i (λ form w. then-passed (question16 text) _ q₁₆ ∙ then-refused (question17 text) _ q i (sym e))
 
-    module _ (q₁₇ : question17 text ≡ passed tt) (table : List ℕ) (n : ℕ) (t : TableOf text table n) where
-      abbrev nodes : ℕ
-      nodes = size (opened (formulaOf text))
+    module _ (q₁₇ : question17 text ≡ passed tt) {n : ℕ} (t : TableOf text allowed table n) where
+      pub fills-many : allowed < n → Fills text allowed lent table (Refused 18 0)
+      fills-many h =
+          let k = many t h in
+          refuses 18 0 (λ form w. texting-asked form lent text q₁₆ q₁₇ ∙ writing-many form lent (formula text) (omega arith))
 
-      asked : answer ≡ writing formIn (length before) (opened (formulaOf text))
-      unfolding texting
-      asked = then-passed (question16 text) _ q₁₆ ∙ then-passed (question17 text) _ q₁₇
+      pub fills-short : n ≤ allowed → lent < n → Fills text allowed lent table (Refused 13 0)
+      fills-short h l =
+          let z = counted t (few t h) in
+          refuses 13 0 (λ form w. texting-asked form lent text q₁₆ q₁₇ ∙ writing-few form lent (formula text) (omega arith) (omega arith))
 
-      counted : nodes ≤ 32 → n ≡ nodes
-      counted h = let a = t .few h .count in let b = length-words formIn good32 (opened (formulaOf text)) in omega arith
-
-      few : n ≤ 32 → nodes ≤ 32
-      few h = elim (le-or-lt nodes 32) [ inl k ↦ k | inr k ↦ let z = t .many k in absurd (omega arith) ]
-
-      pub table-long : n ≤ 32 → length table ≡ 32
-      table-long h = t .few (few h) .long
-
-      pub reads-many : 32 < n → Reads text before before (Refused 18 0)
-      unfolding form32
-      reads-many h =
-          let k : 32 < nodes = elim (le-or-lt nodes 32) [ inl k ↦ let z = counted k in absurd (omega arith) | inr k ↦ k ] in
-          refuses 18 0 (asked ∙ writing-many formIn good32 (length before) (opened (formulaOf text)) k)
-
-      pub reads-short : n ≤ 32 → length before < n → Reads text before before (Refused 13 0)
-      unfolding form32
-      reads-short h l =
-          let k = few h in
-          let z = counted k in
-          refuses 13 0 (asked ∙ writing-few formIn good32 (length before) (opened (formulaOf text)) k (omega arith))
-
-      pub reads-written : n ≤ 32 → n ≤ length before → Reads text before (take n table ++ drop n before) (Count n)
-      unfolding form32
-      reads-written h l =
-          let k = few h in
-          let z = counted k in
-          let w = t .few k in
-          let e = asked ∙ writing-in formIn good32 (length before) (opened (formulaOf text)) k (omega arith) in
+      pub fills-count : allowed ≤ tableLength → n ≤ allowed → n ≤ lent → Fills text allowed lent table (Count n)
+      unfolding form64
+      fills-count within h l =
+          let k = few t h in
+          let z = counted t k in
+          let held = t .few k in
           record {
-            answer = ap passed (w .count) ∙ sym (ap countOf e);
-            output = ap₂ (λ ws m. ws ++ drop m before) (w .words) (w .count) ∙ sym (ap (λ a. outputOf a before) e);
+            answer = λ form w.
+                ap passed (z ∙ sym (length-words form (formula text)))
+                ∙ sym (ap countOf (texting-asked form lent text q₁₆ q₁₇ ∙ writing-in form lent (formula text) (omega arith) (omega arith)));
+            inside = λ m e. let same : m ≡ n = cc in let long = held .long in omega arith;
+            words = λ m e.
+                let same : m ≡ n = cc in
+                texting-asked formIn lent text q₁₆ q₁₇ ∙ writing-in formIn lent (formula text) (omega arith) (omega arith)
+                ∙ ap passed (sym (ap (λ j. take j table) same ∙ held .words));
           }
 
--- ---- what it tells
+-- after a count
+module _ {text : List ℕ} {allowed lent : ℕ} {table : List ℕ} {r : Counted} {n : ℕ} (x : Fills text allowed lent table r)
+    (e : r ≡ Count n) where
+  pub filled-words : texting formIn lent text ≡ passed (take n table)
+  filled-words = x .words n (ap countedOf e)
 
-module _ (text before after : List ℕ) (r : Counted) (x : Reads text before after r) where
+  pub filled-inside : n ≤ length table
+  filled-inside = x .inside n (ap countedOf e)
+
+  pub filled-length : n ≡ length (take n table)
+  filled-length = sym (length-take-le n table filled-inside)
+
+  pub filled-room : length (take n table) ≤ lent
+  filled-room = texting-few formIn lent text (take n table) filled-words .1
+
+  filled-few : (form : Form) → form .width ≡ allowed → length (take n table) ≤ allowed
+  filled-few form w =
+      let (ws, given, l) = count-passed (texting form lent text) n (sym (x .answer form w) ∙ ap countedOf e) in
+      let few = texting-few form lent text ws given .0 in
+      let same = filled-length in omega arith
+
+-- the old form has space for their fields
+module _ {text : List ℕ} {lent : ℕ} {table : List ℕ} {r : Counted} {n : ℕ} (x : Fills text 32 lent table r) (e : r ≡ Count n) where
+  few32 : length (take n table) ≤ 32
+  unfolding form32
+  few32 = filled-few x e form32 refl
+
+  pub filled-narrow : (k : ℕ) → k < length (take n table) → Narrow (fieldsIn (getD (take n table) k 0))
+  unfolding form64
+  filled-narrow = texting-narrowable lent text (take n table) (filled-words x e) few32
+
+  pub narrow-words : texting form32 lent text ≡ passed (narrowRule (take n table))
+  narrow-words = texting-narrow lent text (take n table) (filled-words x e) few32
+
+-- ---- the output
+
+-- what an entry point answers, leaves in the output and tells
+abbrev pub Reads : (form : Form) (text before after : List ℕ) → Counted → Type 0
+Reads form text before after r =
+    (countedOf r ≡ countOf (texting form (length before) text))
+    × ((after ≡ outputOf (texting form (length before) text) before) × Tells form text (countedOf r) after)
+
+module _ (form : Form) (good : GoodForm form) (text before : List ℕ) {table : List ℕ} {r : Counted}
+    (x : Fills text (form .width) (length before) table r) where
   abbrev given : Answer (List ℕ)
-  given = texting formIn (length before) text
+  given = texting form (length before) text
+
+  answer : countedOf r ≡ countOf given
+  answer = x .answer form refl
 
   no : (q i : ℕ) → countedOf r ≡ refused q i → given ≡ refused q i
-  no q i e = count-refused given q i (sym (x .answer) ∙ e)
+  no q i e = count-refused given q i (sym answer ∙ e)
 
-  pub reads-tell : Tells text (countedOf r) after
-  reads-tell = record {
-    table = λ n e.
-        let (ws, g, l) = count-passed given n (sym (x .answer) ∙ e) in
-        let (φ, spelled, t, few) = text-promise32 .table text (length before) ws g in
-        let o = x .output ∙ ap (λ a. outputOf a before) g in
-        (φ, spelled, subst (TableFor formIn φ) (sym (ap₂ take l o ∙ take-append-seam ws _)) t);
-    stuck = λ i e. text-promise32 .stuck text (length before) i (no 16 i e);
-    out-of-range = λ i e. text-promise32 .out-of-range text (length before) i (no 17 i e);
-  }
+  reads : (after : List ℕ) → after ≡ outputOf given before → Reads form text before after r
+  reads after output = (answer, (output, told))
+    where
+      told : Tells form text (countedOf r) after
+      told = record {
+        table = λ n e.
+            let (ws, g, l) = count-passed given n (sym answer ∙ e) in
+            let (φ, spelled, t, few) = text-promise form good .table text (length before) ws g in
+            let o = output ∙ ap (λ a. outputOf a before) g in
+            (φ, spelled, subst (TableFor form φ) (sym (ap₂ take l o ∙ take-append-seam ws _)) t);
+        stuck = λ i e. text-promise form good .stuck text (length before) i (no 16 i e);
+        out-of-range = λ i e. text-promise form good .out-of-range text (length before) i (no 17 i e);
+      }
+
+  pub reads-kept : {q i : ℕ} → r ≡ Refused q i → Reads form text before before r
+  reads-kept {q} {i} e = reads before (sym (ap (λ a. outputOf a before) (no q i (ap countedOf e))))
+
+  -- this form's words, as many as the table holds, at the start of the output
+  pub reads-written : {ws after : List ℕ} {n : ℕ} → r ≡ Count n → given ≡ passed ws
+      → after ≡ ws ++ drop (length (take n table)) before → Reads form text before after (Count n)
+  reads-written {ws} {after} {n} e g o =
+      let l : n ≡ length ws = cc (answer) in
+      subst (Reads form text before after) e
+      (reads after (o ∙ ap (λ m. ws ++ drop m before) (sym (filled-length x e) ∙ l) ∙ sym (ap (λ a. outputOf a before) g)))

@@ -12,20 +12,20 @@ use native.Mathlib.Numerals.{add-one}
 use native.Mathlib.Omega.{arith}
 use lib.ListN.{length, take, set, length-append, length-set}
 use lib.Seq.{take-suc-set, length-take-le}
-use Rattle.spec.specs.Rule.{form32, Node, falseNode, impliesNode, sinceNode, weakPreviousNode, fieldsOfNode}
+use Rattle.spec.specs.Rule.{form64, Node, falseNode, impliesNode, sinceNode, weakPreviousNode, fieldsOfNode}
 use Rattle.grammar.specs.Nodes.{wordOfNode}
 use Rattle.text.specs.Building.{lastOf, put, putImplies, putSince, putWeak, putNot}
-use Rattle.text.specs.Stacks.{Holds}
+use Rattle.text.specs.Stacks.{tableLength, Holds}
 use Rattle.rule.specs.Nodes.{formIn, wordOut}
 use Rattle.text.proofs.BuildLaws.{put-length, implies-length, since-length, weak-length, not-length}
 
-pub length-held : (n : ℕ) (table : List ℕ) → n ≤ 32 → length table ≡ 32 → length (take n table) ≡ n
+pub length-held : (n : ℕ) (table : List ℕ) → n ≤ tableLength → length table ≡ tableLength → length (take n table) ≡ n
 length-held n table h e = length-take-le n table (omega arith)
 
-pub holds-here : (table : List ℕ) (n : ℕ) → n ≤ 32 → length table ≡ 32 → Holds table n (take n table)
+pub holds-here : (table : List ℕ) (n : ℕ) → n ≤ tableLength → length table ≡ tableLength → Holds table n (take n table)
 holds-here table n h e = record { words = refl; count = sym (length-held n table h e); long = e }
 
-pub holds-set : (table : List ℕ) (n word : ℕ) → n < 32 → length table ≡ 32 → Holds (set table n word) (n + 1) (take n table ++ word ∷ [])
+pub holds-set : (table : List ℕ) (n word : ℕ) → n < tableLength → length table ≡ tableLength → Holds (set table n word) (n + 1) (take n table ++ word ∷ [])
 holds-set table n word h e =
     let k : n < length table = omega arith in
     let a = length-held n table (omega arith) e in
@@ -46,13 +46,13 @@ holds-after g a b = holds-as (ap g (a .words)) b
 -- ---- one more node
 
 -- behind n words, the word of the node x
-pub holds-node : (table : List ℕ) (n w : ℕ) (x : Node) → n < 32 → length table ≡ 32 → w ≡ wordOut (fieldsOfNode x)
+pub holds-node : (table : List ℕ) (n w : ℕ) (x : Node) → n < tableLength → length table ≡ tableLength → w ≡ wordOut (fieldsOfNode x)
     → Holds (set table n w) (n + 1) (put formIn x (take n table))
-unfolding put wordOfNode form32
+unfolding put wordOfNode form64
 holds-node table n w x h long e = holds-as (ap (λ v. take n table ++ v ∷ []) e) (holds-set table n w h long)
 
 -- over the last of n nodes
-module _ (table after : List ℕ) (n r l right : ℕ) (few : n < 32) (long : length table ≡ 32) (e : right ≡ n - 1) where
+module _ (table after : List ℕ) (n r l right : ℕ) (few : n < tableLength) (long : length table ≡ tableLength) (e : right ≡ n - 1) where
   last : right ≡ lastOf (take n table)
   last = let a = length-held n table (omega arith) long in omega arith
 
@@ -70,7 +70,7 @@ module _ (table after : List ℕ) (n r l right : ℕ) (few : n < 32) (long : len
 
 -- ---- how many there are
 
-module _ (table after : List ℕ) (n r : ℕ) (few : n ≤ 32) (long : length table ≡ 32) where
+module _ (table after : List ℕ) (n r : ℕ) (few : n ≤ tableLength) (long : length table ≡ tableLength) where
   held : length (take n table) ≡ n
   held = length-held n table few long
 
@@ -91,7 +91,7 @@ module _ (table after : List ℕ) (n r : ℕ) (few : n ≤ 32) (long : length ta
 
 -- ---- not
 
-pub holds-not : (table middle after : List ℕ) (n a r left : ℕ) → n ≤ 32 → length table ≡ 32 → left ≡ n - 1 → Holds middle a (put formIn falseNode (take n table))
+pub holds-not : (table middle after : List ℕ) (n a r left : ℕ) → n ≤ tableLength → length table ≡ tableLength → left ≡ n - 1 → Holds middle a (put formIn falseNode (take n table))
     → Holds after r (putImplies formIn left (take a middle)) → Holds after r (putNot formIn (take n table))
 unfolding putNot
 holds-not table middle after n a r left few long e h k =

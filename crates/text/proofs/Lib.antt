@@ -12,4 +12,5 @@ pub mod UnwindLaws
 pub mod WaitLaws
 pub mod ProgressLaws
 pub mod WritingLaws
+pub mod FormLaws
 pub mod AnswerLaws

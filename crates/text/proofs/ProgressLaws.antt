@@ -17,7 +17,7 @@ use Rattle.grammar.specs.Grammar.{constantWord, Token, word, register, number, 
 use Rattle.grammar.specs.Reading.{awaiting, withLeft, rank, unwound, waits, read, readAll}
 use Rattle.text.specs.Tokens.{prefixOf, operatorOf}
 use Rattle.text.specs.Building.{put, putConstant, words, beginCost, finishCost, tokenCost, cost}
-use Rattle.text.specs.Stacks.{waitingOf, stackOf, builtOf, owed, comparisonOf, Holds, Fitting}
+use Rattle.text.specs.Stacks.{tableLength, waitingOf, stackOf, builtOf, owed, comparisonOf, Holds, Fitting}
 use Rattle.text.specs.Progress.{Builds, progressAt, progressWith, readingWith, Ready, Takes}
 use Rattle.text.specs.declared.token.Prefix.{Prefix}
 use Rattle.text.specs.declared.token.Operator.{Operator}
@@ -85,7 +85,7 @@ module _ (stack table : List ℕ) (p : Progress) (depth : ℕ) where
   constant-length false ws = put-length formIn falseNode ws
 
   -- the words are there, and as many as the token costs
-  put-fits : (t : Token) (table′ : List ℕ) (n : ℕ) (ws : List ℕ) → Fitting stack top table count → count + owed (stackOf stack top) + cost (t ∷ []) ≤ 32
+  put-fits : (t : Token) (table′ : List ℕ) (n : ℕ) (ws : List ℕ) → Fitting stack top table count → count + owed (stackOf stack top) + cost (t ∷ []) ≤ tableLength
       → length ws ≡ length (take count table) + tokenCost t → Holds table′ n ws → Fitting stack top table′ n
   unfolding cost
   put-fits t table′ n ws f r e h =
@@ -93,7 +93,7 @@ module _ (stack table : List ℕ) (p : Progress) (depth : ℕ) where
       let b = h .count in
       record { stack-long = f .stack-long; table-long = h .long; room = omega arith; left-small = f .left-small }
 
-  pub constant-room : (v : Bool) → Ready stack table p (variant.Constant v) → (count + tokenCost (word (constantWord v)) ≤ 32) × (length table ≡ 32)
+  pub constant-room : (v : Bool) → Ready stack table p (variant.Constant v) → (count + tokenCost (word (constantWord v)) ≤ tableLength) × (length table ≡ tableLength)
   unfolding cost
   constant-room v r = (let k = r .room in omega arith, r .fits .table-long)
 
@@ -105,7 +105,7 @@ module _ (stack table : List ℕ) (p : Progress) (depth : ℕ) where
     fits = put-fits (word (constantWord v)) table′ n _ (r .fits) (r .room) (constant-length v (take count table)) h;
   }
 
-  pub number-room : (c : ℕ) → Ready stack table p (variant.Number c) → (count < 32) × (length table ≡ 32) × (p .register ≤ 15) × (c ≤ 16383)
+  pub number-room : (c : ℕ) → Ready stack table p (variant.Number c) → (count < tableLength) × (length table ≡ tableLength) × (p .register ≤ 15) × (c ≤ 16383)
   unfolding cost
   number-room c r = (let k = r .room in omega arith, r .fits .table-long, r .register, r .in-range .0)
 
@@ -121,7 +121,7 @@ module _ (stack table : List ℕ) (p : Progress) (depth : ℕ) where
   -- ---- a word waits
 
   module _ (w : Prefix) (m : ℕ) (e : waitingOf m ≡ awaiting (prefixOf w)) (r : Ready stack table p (variant.Prefix w)) where
-    pub prefix-room : Fitting stack top table count × (count + owed (stackOf stack top) + (beginCost (waitingOf m) + finishCost (waitingOf m)) ≤ 32)
+    pub prefix-room : Fitting stack top table count × (count + owed (stackOf stack top) + (beginCost (waitingOf m) + finishCost (waitingOf m)) ≤ tableLength)
     unfolding cost
     prefix-room = (r .fits, (let k = r .room in let a = ap beginCost e in let b = ap finishCost e in omega arith))
 
@@ -135,7 +135,7 @@ module _ (stack table : List ℕ) (p : Progress) (depth : ℕ) where
     }
 
   module _ (w : Operator) (m level : ℕ) (e : waitingOf m ≡ withLeft (operatorOf w)) (l : level ≡ suc (strength (operatorOf w))) (r : Ready stack table p (variant.Operator w)) where
-    pub operator-room : Fitting stack top table count × (count + owed (stackOf stack top) + (beginCost (waitingOf m) + finishCost (waitingOf m)) ≤ 32) × (level ≤ 4)
+    pub operator-room : Fitting stack top table count × (count + owed (stackOf stack top) + (beginCost (waitingOf m) + finishCost (waitingOf m)) ≤ tableLength) × (level ≤ 4)
     unfolding cost
     operator-room = (
       r .fits,

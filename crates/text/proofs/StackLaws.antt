@@ -19,7 +19,7 @@ use Rattle.grammar.specs.Typed.{not, wprev, prev, once, sofar, Operator, sinceW
 use Rattle.grammar.specs.Grammar.{constantWord, prefixWord, operatorWord, Token, word, register, number, sign, strength}
 use Rattle.grammar.specs.Reading.{Waiting, awaiting, withLeft, rank, Entry, Built, Reading, unwound, waits, read}
 use Rattle.text.specs.Building.{lastOf, put, putImplies, begins, finishes, words, beginCost, finishCost, tokenCost}
-use Rattle.text.specs.Stacks.{waitingOf, entryOf, entryAt, stackOf, owed, LeftSmall}
+use Rattle.text.specs.Stacks.{tableLength, waitingOf, entryOf, entryAt, stackOf, owed, LeftSmall}
 use Rattle.text.proofs.BuildLaws.{put-length, true-length, begins-length, finishes-length}
 
 -- ---- in an array
@@ -146,11 +146,11 @@ module _ (form : Form) where
       go true k = k
       go false k = h
 
-  waits-small : (d : ℕ) (w : Waiting) (x : Built (List ℕ) ℕ) → LeftSmall (x .stack) → weight (waits (words form) d w x) ≤ 32 → LeftSmall (waits (words form) d w x .stack)
+  waits-small : (d : ℕ) (w : Waiting) (x : Built (List ℕ) ℕ) → LeftSmall (x .stack) → weight (waits (words form) d w x) ≤ tableLength → LeftSmall (waits (words form) d w x .stack)
   unfolding LeftSmall
   waits-small d w x h k = (omega arith, h)
 
-  pub read-small : (r : Reading (List ℕ) ℕ) (t : Token) → LeftSmall (r .built .stack) → weight (read (words form) r t .built) ≤ 32
+  pub read-small : (r : Reading (List ℕ) ℕ) (t : Token) → LeftSmall (r .built .stack) → weight (read (words form) r t .built) ≤ tableLength
       → LeftSmall (read (words form) r t .built .stack)
   unfolding read
   read-small r (word (constantWord c)) h k = h

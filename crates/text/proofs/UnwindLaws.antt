@@ -1,6 +1,6 @@
 -- Words that end (`specs/Stacks.antt`).
 --     level-tight, level-loose, level-small      how tight a word binds, by its number
---     stack-top, few-waiting           the last word that waits, and that there are at most 32
+--     stack-top, few-waiting           the last word that waits, and that there are no more than nodes in a table
 --     no-top, top-deeper, top-shallower, top-level      whether it ends
 --     Unwinding, unwinding-start, unwinding-room, unwinding-next, unwinding-stop      the loop that ends words
 -- Assumes nothing.
@@ -18,7 +18,7 @@ use Rattle.grammar.specs.Reading.{Waiting, awaiting, withLeft, levelOf, rank, E
 use Rattle.grammar.proofs.SpellLaws.{right-small}
 use Rattle.grammar.proofs.ReadingLaws.{unwound-ends, unwound-stays, Under}
 use Rattle.text.specs.Building.{finishes, finishCost, words}
-use Rattle.text.specs.Stacks.{waitingOf, entryAt, stackOf, owed, LeftSmall, Holds, Fitting, endsTop, Unwinds}
+use Rattle.text.specs.Stacks.{tableLength, waitingOf, entryAt, stackOf, owed, LeftSmall, Holds, Fitting, endsTop, Unwinds}
 use Rattle.rule.specs.Nodes.{formIn}
 use Rattle.text.proofs.BuildLaws.{finishes-length}
 use Rattle.text.proofs.StackLaws.{stack-length, entries-owed}
@@ -57,7 +57,7 @@ unfolding stackOf
 stack-top st zero h = absurd (h refl)
 stack-top st (suc n) h = let z : n ≡ suc n - 1 = omega arith in ap (λ k. entryAt st k ∷ stackOf st k) z
 
-pub few-waiting : (st table : List ℕ) (top count : ℕ) → Fitting st top table count → top ≤ 32
+pub few-waiting : (st table : List ℕ) (top count : ℕ) → Fitting st top table count → top ≤ tableLength
 few-waiting st table top count f =
     let a = entries-owed (stackOf st top) in let b = stack-length st top in let c = f .room in omega arith
 
@@ -117,7 +117,7 @@ module _ (stack : List ℕ) (top : ℕ) (table : List ℕ) (count limit t : ℕ)
     here : stackOf stack t ≡ last ∷ stackOf stack (t - 1)
     here = stack-top stack t unwinding-some
 
-    pub unwinding-room : (n + finishCost (last .waiting) ≤ 32) × (length now ≡ 32) × (last .noted < 32)
+    pub unwinding-room : (n + finishCost (last .waiting) ≤ tableLength) × (length now ≡ tableLength) × (last .noted < tableLength)
     unfolding owed LeftSmall
     unwinding-room =
         let f = x .fits in

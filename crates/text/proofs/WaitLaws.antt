@@ -10,7 +10,7 @@ use native.Mathlib.Omega.{arith}
 use lib.ListN.{length, take}
 use Rattle.grammar.specs.Reading.{unwound, waits}
 use Rattle.text.specs.Building.{lastOf, begins, words, beginCost, finishCost}
-use Rattle.text.specs.Stacks.{waitingOf, entryOf, stackOf, builtOf, owed, LeftSmall, Holds, Fitting, Unwinds}
+use Rattle.text.specs.Stacks.{tableLength, stackLength, waitingOf, entryOf, stackOf, builtOf, owed, LeftSmall, Holds, Fitting, Unwinds}
 use Rattle.text.specs.Progress.{Builds}
 use Rattle.rule.specs.Nodes.{formIn}
 use Rattle.text.proofs.BuildLaws.{begins-length}
@@ -18,8 +18,8 @@ use Rattle.text.proofs.StackLaws.{stack-length, finish-some, entries-ow
 use Rattle.text.proofs.HoldLaws.{length-held}
 
 module _ (stack : List ℕ) (top : ℕ) (table : List ℕ) (count word : ℕ) (f : Fitting stack top table count)
-    (room : count + owed (stackOf stack top) + (beginCost (waitingOf word) + finishCost (waitingOf word)) ≤ 32) where
-  pub room-waits : (top < 32) × (count + beginCost (waitingOf word) ≤ 32)
+    (room : count + owed (stackOf stack top) + (beginCost (waitingOf word) + finishCost (waitingOf word)) ≤ tableLength) where
+  pub room-waits : (top < tableLength) × (count + beginCost (waitingOf word) ≤ tableLength)
   room-waits =
       let a = entries-owed (stackOf stack top) in
       let b = stack-length stack top in
@@ -27,7 +27,7 @@ module _ (stack : List ℕ) (top : ℕ) (table : List ℕ) (count word : ℕ) (f
       (omega arith, omega arith)
 
   pub waits-builds : (depth left : ℕ) (stack′ : List ℕ) (t : ℕ) (table′ : List ℕ) (n : ℕ) → Holds table′ n (begins formIn (waitingOf word) (take count table))
-      → left ≡ n - 1 → length stack′ ≡ 96 → stackOf stack′ t ≡ entryOf word left depth ∷ stackOf stack top
+      → left ≡ n - 1 → length stack′ ≡ stackLength → stackOf stack′ t ≡ entryOf word left depth ∷ stackOf stack top
       → Builds stack′ t table′ n (waits (words formIn) depth (waitingOf word) (builtOf stack top table count))
   unfolding owed LeftSmall
   waits-builds depth left stack′ t table′ n h e l s =
@@ -49,8 +49,8 @@ module _ (stack : List ℕ) (top : ℕ) (table : List ℕ) (count word : ℕ) (f
 
 -- after what ends
 module _ (stack : List ℕ) (top : ℕ) (table : List ℕ) (count word limit t : ℕ) (after : List ℕ) (n : ℕ) (f : Fitting stack top table count)
-    (room : count + owed (stackOf stack top) + (beginCost (waitingOf word) + finishCost (waitingOf word)) ≤ 32) (u : Unwinds stack top table count limit t after n) where
-  pub join-room : Fitting stack t after n × (n + owed (stackOf stack t) + (beginCost (waitingOf word) + finishCost (waitingOf word)) ≤ 32)
+    (room : count + owed (stackOf stack top) + (beginCost (waitingOf word) + finishCost (waitingOf word)) ≤ tableLength) (u : Unwinds stack top table count limit t after n) where
+  pub join-room : Fitting stack t after n × (n + owed (stackOf stack t) + (beginCost (waitingOf word) + finishCost (waitingOf word)) ≤ tableLength)
   join-room =
       let a = unwound-weight formIn limit (stackOf stack top) (take count table) in
       let b = ap (λ x. length (x .value) + owed (x .stack)) (u .built) in

@@ -24,7 +24,7 @@ use Rattle.grammar.proofs.RangeLaws.{fit-append, range-tokens}
 use Rattle.text.specs.Tokens.{tokensIn, capped, cappedToken}
 use Rattle.text.specs.Places.{scanOf, scanAfter, Over}
 use Rattle.text.specs.Building.{words, cost}
-use Rattle.text.specs.Stacks.{stackOf, owed, LeftSmall, Fitting, Unwinds}
+use Rattle.text.specs.Stacks.{tableLength, stackLength, stackOf, owed, LeftSmall, Fitting, Unwinds}
 use Rattle.text.specs.Progress.{readingOf, depthIn, Ready, Takes, TableOf}
 use Rattle.text.specs.declared.token.Prefix.the-variants as prefix
 use Rattle.text.specs.declared.token.Operator.the-variants as operator
@@ -115,13 +115,14 @@ depth-same w d variant.Below = refl
 
 -- ---- the loop
 
-pub record Writing (text stack table : List ℕ) (p : Progress) (s : Between) (total at : ℕ) : Type 0 where
+pub record Writing (text : List ℕ) (allowed : ℕ) (stack table : List ℕ) (p : Progress) (s : Between) (total at : ℕ) : Type 0 where
   pub turning : Turning text s at
   pub through : stuckFrom 0 start text ≡ none
   pub reading : whole (words formIn) (readAll (words formIn) (readingOf stack table p (s .depth)) (tokensFrom (scanOf s) (drop at text))) ≡ ruleWords formIn (opened (formulaOf text))
   pub spent : total + cost (tokensFrom (scanOf s) (drop at text)) ≡ size (opened (formulaOf text))
   pub weighed : p .height .count + owed (stackOf stack (p .height .top)) ≡ total
-  pub few : total ≤ 32
+  pub within : allowed ≤ tableLength
+  pub few : total ≤ allowed
   pub fits : Fitting stack (p .height .top) table (p .height .count)
   pub in-range : AllInRange (tokensFrom (scanOf s) (drop at text))
   pub register : p .register ≤ 15
@@ -129,24 +130,25 @@ pub record Writing (text stack table : List ℕ) (p : Progress) (s : Between) (t
 abbrev firstPen : Progress
 firstPen = record { height = record { top = 0; count = 0 }; register = 0; below = false }
 
-pub writing-start : (text table : List ℕ) (s : Between) → question16 text ≡ passed tt → question17 text ≡ passed tt → length table ≡ 32 → scanOf s ≡ start
-    → Writing text (replicate 96 0) table firstPen s 0 0
+pub writing-start : (text : List ℕ) (allowed : ℕ) (table : List ℕ) (s : Between) → question16 text ≡ passed tt → question17 text ≡ passed tt → allowed ≤ tableLength → length table ≡ tableLength → scanOf s ≡ start
+    → Writing text allowed (replicate stackLength 0) table firstPen s 0 0
 unfolding tokensOf stackOf owed LeftSmall
-writing-start text table s q₁₆ q₁₇ l e =
+writing-start text allowed table s q₁₆ q₁₇ within l e =
     let d : s .depth ≡ 0 = ap depthOf e in
     record {
       turning = turning-start text s e;
       through = passes-through text q₁₆;
-      reading = ap₂ (λ n x. whole (words formIn) (readAll (words formIn) (readingOf (replicate 96 0) table firstPen n) (tokensFrom x text))) d e ∙ whole-table text q₁₆ q₁₇;
+      reading = ap₂ (λ n x. whole (words formIn) (readAll (words formIn) (readingOf (replicate stackLength 0) table firstPen n) (tokensFrom x text))) d e ∙ whole-table text q₁₆ q₁₇;
       spent = let a = whole-cost text q₁₆ q₁₇ in let b = ap (λ x. cost (tokensFrom x text)) e in omega arith;
       weighed = refl;
+      within = within;
       few = omega arith;
       fits = record { stack-long = refl; table-long = l; room = omega arith; left-small = tt };
       in-range = subst (λ x. AllInRange (tokensFrom x text)) (sym e) (whole-range text q₁₆ q₁₇);
       register = omega arith;
     }
 
-module _ (text stack table : List ℕ) (p : Progress) (s : Between) (total at : ℕ) (x : Writing text stack table p s total at) where
+module _ (text : List ℕ) (allowed : ℕ) (stack table : List ℕ) (p : Progress) (s : Between) (total at : ℕ) (x : Writing text allowed stack table p s total at) where
   abbrev rest : List Token
   rest = tokensFrom (scanOf s) (drop at text)
 
@@ -172,20 +174,20 @@ module _ (text stack table : List ℕ) (p : Progress) (s : Between) (total at : 
     spent-is = let a = x .spent in let b = ap cost rest-is in let c = cost-append (tokensIn t) later in omega arith
 
     -- too many nodes
-    pub writing-many : (table′ : List ℕ) → 32 < total + cost (tokensIn t) → TableOf text table′ (total + cost (tokensIn t))
+    pub writing-many : (table′ : List ℕ) → allowed < total + cost (tokensIn t) → TableOf text allowed table′ (total + cost (tokensIn t))
     writing-many table′ h = record { few = λ k. absurd (let a = spent-is in omega arith); many = λ k. h }
 
-    module _ (h : total + cost (tokensIn t) ≤ 32) where
+    module _ (h : total + cost (tokensIn t) ≤ allowed) where
       pub writing-ready : Ready stack table p t
       writing-ready = record {
         fits = x .fits;
-        room = let a = x .weighed in omega arith;
+        room = let a = x .weighed in let b = x .within in omega arith;
         in-range = subst AllInRange this (exact-range .0);
         register = x .register;
       }
 
       pub writing-next : (stack′ table′ : List ℕ) (q : Progress) (s′ : Between) → Takes stack table p (s .depth) t stack′ table′ q → scanOf s′ ≡ scanAfter (s .want) (s .depth) t
-          → Writing text stack′ table′ q s′ (total + cost (tokensIn t)) next
+          → Writing text allowed stack′ table′ q s′ (total + cost (tokensIn t)) next
       writing-next stack′ table′ q s′ k e =
           let ready = writing-ready in
           let d : s′ .depth ≡ depthIn (s .depth) (tokensIn t) = ap depthOf e ∙ depth-same (s .want) (s .depth) t in
@@ -206,6 +208,7 @@ module _ (text stack table : List ℕ) (p : Progress) (s : Between) (total at : 
                 ∙ x .reading;
             spent = let y = spent-is in let z = ap (λ y. cost (tokensFrom y (drop next text))) e in omega arith;
             weighed = omega arith;
+            within = x .within;
             few = h;
             fits = k .fits;
             in-range = subst (λ y. AllInRange (tokensFrom y (drop next text))) (sym e) (exact-range .1);
@@ -217,7 +220,7 @@ module _ (text stack table : List ℕ) (p : Progress) (s : Between) (total at : 
     none-left : rest ≡ []
     none-left = ap (tokensFrom (scanOf s)) (drop-of-length-le text h) ∙ tokens-end (scanOf s)
 
-    pub writing-end : (t : ℕ) (after : List ℕ) (n : ℕ) → Unwinds stack (p .height .top) table (p .height .count) 0 t after n → TableOf text after n
+    pub writing-end : (t : ℕ) (after : List ℕ) (n : ℕ) → Unwinds stack (p .height .top) table (p .height .count) 0 t after n → TableOf text allowed after n
     unfolding cost readAll whole
     writing-end t after n u =
         let a = x .spent in

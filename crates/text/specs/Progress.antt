@@ -11,7 +11,7 @@ use Rattle.grammar.specs.Reading.{Built, Reading, depthAfter, readAll, formulaO
 use Rattle.grammar.specs.TextPromise.{AllInRange}
 use Rattle.text.specs.Tokens.{tokensIn}
 use Rattle.text.specs.Building.{words, cost}
-use Rattle.text.specs.Stacks.{stackOf, builtOf, owed, comparisonOf, Holds, Fitting}
+use Rattle.text.specs.Stacks.{tableLength, stackOf, builtOf, owed, comparisonOf, Holds, Fitting}
 use Rattle.text.specs.declared.token.Token as token
 use Rattle.text.specs.declared.write.Progress.{Progress}
 
@@ -41,7 +41,7 @@ depthIn d (t ∷ ts) = depthIn (depthAfter d t) ts
 -- it may be taken: there is room for its nodes, and its number is in range
 pub record Ready (stack table : List ℕ) (p : Progress) (t : token.Token) : Type 0 where
   pub fits : Fitting stack (p .height .top) table (p .height .count)
-  pub room : p .height .count + owed (stackOf stack (p .height .top)) + cost (tokensIn t) ≤ 32
+  pub room : p .height .count + owed (stackOf stack (p .height .top)) + cost (tokensIn t) ≤ tableLength
   pub in-range : AllInRange (tokensIn t)
   pub register : p .register ≤ 15
 
@@ -52,7 +52,7 @@ pub record Takes (stack table : List ℕ) (p : Progress) (depth : ℕ) (t : toke
 
 -- ---- a whole text
 
--- the text's table: as many words as the opened formula has nodes; or there are more than 32
-pub record TableOf (text table : List ℕ) (n : ℕ) : Type 0 where
-  pub few : size (opened (formulaOf text)) ≤ 32 → Holds table n (ruleWords formIn (opened (formulaOf text)))
-  pub many : 32 < size (opened (formulaOf text)) → 32 < n
+-- the text's table: as many words as the opened formula has nodes; or there are more than allowed
+pub record TableOf (text : List ℕ) (allowed : ℕ) (table : List ℕ) (n : ℕ) : Type 0 where
+  pub few : size (opened (formulaOf text)) ≤ allowed → Holds table n (ruleWords formIn (opened (formulaOf text)))
+  pub many : allowed < size (opened (formulaOf text)) → allowed < n

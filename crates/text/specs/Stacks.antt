@@ -11,6 +11,14 @@ use Rattle.grammar.specs.Typed.{not, wprev, prev, once, sofar, sinceWord, andWo
 use Rattle.grammar.specs.Reading.{Waiting, awaiting, withLeft, levelOf, rank, Entry, Built, Reading, unwound}
 use Rattle.text.specs.Building.{words, finishCost}
 
+-- how many nodes the table has space for: as many as the form in which a rule is held allows
+abbrev pub tableLength : ℕ
+tableLength = 64
+
+-- as many words can wait, three numbers each
+abbrev pub stackLength : ℕ
+stackLength = 3 * tableLength
+
 -- the numbers of words
 abbrev pub waitingOf : ℕ → Waiting
 waitingOf n =
@@ -37,10 +45,10 @@ unfoldable pub owed : List (Entry ℕ) → ℕ
 owed [] = 0
 owed (e ∷ s) = finishCost (e .waiting) + owed s
 
--- the nodes to their left are nodes of a table of 32
+-- the nodes to their left are nodes of the table
 unfoldable pub LeftSmall : List (Entry ℕ) → Type 0
 LeftSmall [] = Unit {0}
-LeftSmall (e ∷ s) = (e .noted < 32) × LeftSmall s
+LeftSmall (e ∷ s) = (e .noted < tableLength) × LeftSmall s
 
 abbrev pub comparisonOf : (below : Bool) → Comparison
 comparisonOf true = lessThan
@@ -50,13 +58,13 @@ comparisonOf false = equalTo
 pub record Holds (table : List ℕ) (n : ℕ) (ws : List ℕ) : Type 0 where
   pub words : take n table ≡ ws
   pub count : n ≡ length ws
-  pub long : length table ≡ 32
+  pub long : length table ≡ tableLength
 
 -- what is built fits: the array and the table have room for all that is put and owed
 pub record Fitting (stack : List ℕ) (top : ℕ) (table : List ℕ) (count : ℕ) : Type 0 where
-  pub stack-long : length stack ≡ 96
-  pub table-long : length table ≡ 32
-  pub room : count + owed (stackOf stack top) ≤ 32
+  pub stack-long : length stack ≡ stackLength
+  pub table-long : length table ≡ tableLength
+  pub room : count + owed (stackOf stack top) ≤ tableLength
   pub left-small : LeftSmall (stackOf stack top)
 
 -- whether the last word that waits ends

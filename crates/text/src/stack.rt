@@ -7,7 +7,7 @@ ghost use mathlib.Core.List.{_∷_};
 ghost use lib.ListN.{length};
 ghost use Prim.Native.Nat.{_+_, _≤_, _<_};
 ghost use Rattle.grammar.specs.Reading.{levelOf, rank};
-ghost use Rattle.text.specs.Stacks.{waitingOf, entryOf, stackOf, endsTop, Fitting, Unwinds};
+ghost use Rattle.text.specs.Stacks.{tableLength, stackLength, waitingOf, entryOf, stackOf, endsTop, Fitting, Unwinds};
 
 // How many words wait, and how many nodes are in the table.
 pub struct Height {
@@ -28,14 +28,14 @@ fn level_of(word: usize) -> usize
 }
 
 pub(crate) fn push(
-    stack: &mut [usize; 96],
+    stack: &mut [usize; 192],
     top: usize,
     word: usize,
     left: usize,
     depth: usize,
 ) -> usize
-    requires { ⌜ (top < 32) × (length (now stack) ≡ 96) ⌝ }
-    ensures { λ r. ⌜ (r ≡ top + 1) × (length (now (stack .exit)) ≡ 96) × (stackOf (now (stack .exit)) r ≡ entryOf word left depth ∷ stackOf (now (stack .entry)) top) ⌝ }
+    requires { ⌜ (top < tableLength) × (length (now stack) ≡ stackLength) ⌝ }
+    ensures { λ r. ⌜ (r ≡ top + 1) × (length (now (stack .exit)) ≡ stackLength) × (stackOf (now (stack .exit)) r ≡ entryOf word left depth ∷ stackOf (now (stack .entry)) top) ⌝ }
 {
     let base = 3 * top;
     stack[base] = word;
@@ -45,8 +45,8 @@ pub(crate) fn push(
 }
 
 // Whether a word with this level, at a place with so many open brackets, ends the word on top.
-fn ends_top(stack: &[usize; 96], top: usize, depth: usize, level: usize) -> bool
-    requires { ⌜ (top ≤ 32) × (level ≤ 4) ⌝ }
+fn ends_top(stack: &[usize; 192], top: usize, depth: usize, level: usize) -> bool
+    requires { ⌜ (top ≤ tableLength) × (level ≤ 4) ⌝ }
     ensures { λ r. ⌜ r ≡ endsTop (rank depth level) (stackOf (now (stack .entry)) top) ⌝ }
 {
     if top == 0 {
@@ -65,9 +65,9 @@ fn ends_top(stack: &[usize; 96], top: usize, depth: usize, level: usize) -> bool
 
 // Ends the words that bind as tight as this, or tighter.
 pub(crate) fn unwind(
-    stack: &[usize; 96],
+    stack: &[usize; 192],
     top: usize,
-    table: &mut [u32; 32],
+    table: &mut [u64; 64],
     count: usize,
     depth: usize,
     level: usize,

@@ -1,4 +1,4 @@
-// Nodes put one after the other into a table of 32. `n` are there; each function hands back how many are then.
+// Nodes put one after the other into a table of 64. `n` are there; each function hands back how many are then.
 use crate::token::minus;
 use rule::node::Node;
 use rule::node::node_word;
@@ -12,7 +12,7 @@ ghost use Rattle.grammar.specs.Typed.{prev, sofar, andWord, testOf};
 ghost use Rattle.grammar.specs.Grammar.{constantWord, word};
 ghost use Rattle.grammar.specs.Reading.{awaiting, withLeft};
 ghost use Rattle.text.specs.Building.{put, putImplies, putSince, putWeak, putNot, putTrue, putConstant, finishes, finishCost, tokenCost};
-ghost use Rattle.text.specs.Stacks.{waitingOf, comparisonOf, Holds};
+ghost use Rattle.text.specs.Stacks.{tableLength, waitingOf, comparisonOf, Holds};
 
 // The numbers of the words that wait for an operand.
 pub(crate) const NOT: usize = 0;
@@ -34,29 +34,29 @@ pub(crate) const OR: usize = 7;
 pub(crate) const IMPLIES: usize = 8;
 
 // One more node.
-fn put_node(table: &mut [u32; 32], n: usize, x: Node) -> usize
-    requires { ⌜ (n < 32) × (length (now table) ≡ 32) × NodeSmall (nodeRead x) ⌝ }
+fn put_node(table: &mut [u64; 64], n: usize, x: Node) -> usize
+    requires { ⌜ (n < tableLength) × (length (now table) ≡ tableLength) × NodeSmall (nodeRead x) ⌝ }
     ensures { λ r. ⌜ Holds (now (table .exit)) r (put formIn (nodeRead x) (take n (now (table .entry)))) ⌝ }
 {
     table[n] = node_word(x);
     n + 1
 }
 
-fn put_false(table: &mut [u32; 32], n: usize) -> usize
-    requires { ⌜ (n < 32) × (length (now table) ≡ 32) ⌝ }
+fn put_false(table: &mut [u64; 64], n: usize) -> usize
+    requires { ⌜ (n < tableLength) × (length (now table) ≡ tableLength) ⌝ }
     ensures { λ r. ⌜ Holds (now (table .exit)) r (put formIn falseNode (take n (now (table .entry)))) ⌝ }
 {
     put_node(table, n, Node::False)
 }
 
 pub(crate) fn put_test(
-    table: &mut [u32; 32],
+    table: &mut [u64; 64],
     n: usize,
     below: bool,
     register: u32,
     constant: u32,
 ) -> usize
-    requires { ⌜ (n < 32) × (length (now table) ≡ 32) × (register ≤ 15) × (constant ≤ 16383) ⌝ }
+    requires { ⌜ (n < tableLength) × (length (now table) ≡ tableLength) × (register ≤ 15) × (constant ≤ 16383) ⌝ }
     ensures { λ r. ⌜ Holds (now (table .exit)) r (put formIn (testNode (testOf (comparisonOf below) register constant)) (take n (now (table .entry)))) ⌝ }
 {
     let r = register as usize;
@@ -82,48 +82,48 @@ pub(crate) fn put_test(
     }
 }
 
-fn put_implies(table: &mut [u32; 32], n: usize, left: usize) -> usize
-    requires { ⌜ (n < 32) × (length (now table) ≡ 32) × (left < 32) ⌝ }
+fn put_implies(table: &mut [u64; 64], n: usize, left: usize) -> usize
+    requires { ⌜ (n < tableLength) × (length (now table) ≡ tableLength) × (left < tableLength) ⌝ }
     ensures { λ r. ⌜ Holds (now (table .exit)) r (putImplies formIn left (take n (now (table .entry)))) ⌝ }
 {
     let right = minus(n, 1);
     put_node(table, n, Node::Implies { left, right })
 }
 
-fn put_since(table: &mut [u32; 32], n: usize, left: usize) -> usize
-    requires { ⌜ (n < 32) × (length (now table) ≡ 32) × (left < 32) ⌝ }
+fn put_since(table: &mut [u64; 64], n: usize, left: usize) -> usize
+    requires { ⌜ (n < tableLength) × (length (now table) ≡ tableLength) × (left < tableLength) ⌝ }
     ensures { λ r. ⌜ Holds (now (table .exit)) r (putSince formIn left (take n (now (table .entry)))) ⌝ }
 {
     let right = minus(n, 1);
     put_node(table, n, Node::Since { left, right })
 }
 
-fn put_weak(table: &mut [u32; 32], n: usize) -> usize
-    requires { ⌜ (n < 32) × (length (now table) ≡ 32) ⌝ }
+fn put_weak(table: &mut [u64; 64], n: usize) -> usize
+    requires { ⌜ (n < tableLength) × (length (now table) ≡ tableLength) ⌝ }
     ensures { λ r. ⌜ Holds (now (table .exit)) r (putWeak formIn (take n (now (table .entry)))) ⌝ }
 {
     put_node(table, n, Node::WeakPrevious { left: minus(n, 1) })
 }
 
 // Not of the last node.
-pub(crate) fn put_not(table: &mut [u32; 32], n: usize) -> usize
-    requires { ⌜ (n + 2 ≤ 32) × (length (now table) ≡ 32) ⌝ }
+pub(crate) fn put_not(table: &mut [u64; 64], n: usize) -> usize
+    requires { ⌜ (n + 2 ≤ tableLength) × (length (now table) ≡ tableLength) ⌝ }
     ensures { λ r. ⌜ Holds (now (table .exit)) r (putNot formIn (take n (now (table .entry)))) ⌝ }
 {
     let a = put_false(table, n);
     put_implies(table, a, minus(n, 1))
 }
 
-pub(crate) fn put_true(table: &mut [u32; 32], n: usize) -> usize
-    requires { ⌜ (n + 3 ≤ 32) × (length (now table) ≡ 32) ⌝ }
+pub(crate) fn put_true(table: &mut [u64; 64], n: usize) -> usize
+    requires { ⌜ (n + 3 ≤ tableLength) × (length (now table) ≡ tableLength) ⌝ }
     ensures { λ r. ⌜ Holds (now (table .exit)) r (putTrue formIn (take n (now (table .entry)))) ⌝ }
 {
     let a = put_false(table, n);
     put_not(table, a)
 }
 
-pub(crate) fn put_constant(table: &mut [u32; 32], n: usize, value: bool) -> usize
-    requires { ⌜ (n + tokenCost (word (constantWord value)) ≤ 32) × (length (now table) ≡ 32) ⌝ }
+pub(crate) fn put_constant(table: &mut [u64; 64], n: usize, value: bool) -> usize
+    requires { ⌜ (n + tokenCost (word (constantWord value)) ≤ tableLength) × (length (now table) ≡ tableLength) ⌝ }
     ensures { λ r. ⌜ Holds (now (table .exit)) r (putConstant formIn value (take n (now (table .entry)))) ⌝ }
 {
     if value {
@@ -133,8 +133,8 @@ pub(crate) fn put_constant(table: &mut [u32; 32], n: usize, value: bool) -> usiz
     }
 }
 
-fn put_prev(table: &mut [u32; 32], n: usize) -> usize
-    requires { ⌜ (n + 5 ≤ 32) × (length (now table) ≡ 32) ⌝ }
+fn put_prev(table: &mut [u64; 64], n: usize) -> usize
+    requires { ⌜ (n + 5 ≤ tableLength) × (length (now table) ≡ tableLength) ⌝ }
     ensures { λ r. ⌜ Holds (now (table .exit)) r (finishes formIn (awaiting prev) 0 (take n (now (table .entry)))) ⌝ }
 {
     let a = put_not(table, n);
@@ -142,8 +142,8 @@ fn put_prev(table: &mut [u32; 32], n: usize) -> usize
     put_not(table, b)
 }
 
-fn put_sofar(table: &mut [u32; 32], n: usize, left: usize) -> usize
-    requires { ⌜ (n + 5 ≤ 32) × (length (now table) ≡ 32) × (left < 32) ⌝ }
+fn put_sofar(table: &mut [u64; 64], n: usize, left: usize) -> usize
+    requires { ⌜ (n + 5 ≤ tableLength) × (length (now table) ≡ tableLength) × (left < tableLength) ⌝ }
     ensures { λ r. ⌜ Holds (now (table .exit)) r (finishes formIn (awaiting sofar) left (take n (now (table .entry)))) ⌝ }
 {
     let a = put_not(table, n);
@@ -151,8 +151,8 @@ fn put_sofar(table: &mut [u32; 32], n: usize, left: usize) -> usize
     put_not(table, b)
 }
 
-fn put_and(table: &mut [u32; 32], n: usize, left: usize) -> usize
-    requires { ⌜ (n + 5 ≤ 32) × (length (now table) ≡ 32) × (left < 32) ⌝ }
+fn put_and(table: &mut [u64; 64], n: usize, left: usize) -> usize
+    requires { ⌜ (n + 5 ≤ tableLength) × (length (now table) ≡ tableLength) × (left < tableLength) ⌝ }
     ensures { λ r. ⌜ Holds (now (table .exit)) r (finishes formIn (withLeft andWord) left (take n (now (table .entry)))) ⌝ }
 {
     let a = put_not(table, n);
@@ -161,8 +161,8 @@ fn put_and(table: &mut [u32; 32], n: usize, left: usize) -> usize
 }
 
 // What a word puts whose operand has ended; `left` is the node to its left.
-pub(crate) fn put_end(table: &mut [u32; 32], n: usize, word: usize, left: usize) -> usize
-    requires { ⌜ (n + finishCost (waitingOf word) ≤ 32) × (length (now table) ≡ 32) × (left < 32) ⌝ }
+pub(crate) fn put_end(table: &mut [u64; 64], n: usize, word: usize, left: usize) -> usize
+    requires { ⌜ (n + finishCost (waitingOf word) ≤ tableLength) × (length (now table) ≡ tableLength) × (left < tableLength) ⌝ }
     ensures { λ r. ⌜ Holds (now (table .exit)) r (finishes formIn (waitingOf word) left (take n (now (table .entry)))) ⌝ }
 {
     match word {

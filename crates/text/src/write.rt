@@ -36,7 +36,7 @@ ghost use Rattle.grammar.specs.Texting.{question17};
 ghost use Rattle.grammar.specs.Reading.{awaiting, withLeft, rank, unwound, waits};
 ghost use Rattle.text.specs.Tokens.{prefixOf, operatorOf, tokensIn};
 ghost use Rattle.text.specs.Building.{words, begins, beginCost, finishCost, tokenCost, cost};
-ghost use Rattle.text.specs.Stacks.{waitingOf, stackOf, builtOf, owed, Holds, Fitting};
+ghost use Rattle.text.specs.Stacks.{tableLength, waitingOf, stackOf, builtOf, owed, Holds, Fitting};
 ghost use Rattle.text.specs.Progress.{Builds, progressAt, progressWith, Ready, Takes, TableOf};
 
 // How many words wait and nodes are there, and the register and the sign of the atom that is being read.
@@ -82,8 +82,8 @@ fn operator_level(word: Operator) -> usize
 }
 
 // What a word puts where it is read: true comes before the operand of once and sofar, and or negates its left operand.
-fn put_begin(table: &mut [u32; 32], n: usize, word: usize) -> usize
-    requires { ⌜ (n + beginCost (waitingOf word) ≤ 32) × (length (now table) ≡ 32) ⌝ }
+fn put_begin(table: &mut [u64; 64], n: usize, word: usize) -> usize
+    requires { ⌜ (n + beginCost (waitingOf word) ≤ tableLength) × (length (now table) ≡ tableLength) ⌝ }
     ensures { λ r. ⌜ Holds (now (table .exit)) r (begins formIn (waitingOf word) (take n (now (table .entry)))) ⌝ }
 {
     match word {
@@ -96,14 +96,14 @@ fn put_begin(table: &mut [u32; 32], n: usize, word: usize) -> usize
 
 // A word waits, with the last node to its left.
 fn wait(
-    stack: &mut [usize; 96],
+    stack: &mut [usize; 192],
     top: usize,
-    table: &mut [u32; 32],
+    table: &mut [u64; 64],
     count: usize,
     word: usize,
     depth: usize,
 ) -> Height
-    requires { ⌜ Fitting (now stack) top (now table) count × (count + owed (stackOf (now stack) top) + (beginCost (waitingOf word) + finishCost (waitingOf word)) ≤ 32) ⌝ }
+    requires { ⌜ Fitting (now stack) top (now table) count × (count + owed (stackOf (now stack) top) + (beginCost (waitingOf word) + finishCost (waitingOf word)) ≤ tableLength) ⌝ }
     ensures { λ r. ⌜ Builds (now (stack .exit)) (r .top) (now (table .exit)) (r .count) (waits (words formIn) depth (waitingOf word) (builtOf (now (stack .entry)) top (now (table .entry)) count)) ⌝ }
 {
     let n = put_begin(table, count, word);
@@ -113,15 +113,15 @@ fn wait(
 
 // A word between two formulas: what binds its left operand tighter ends.
 fn join(
-    stack: &mut [usize; 96],
+    stack: &mut [usize; 192],
     top: usize,
-    table: &mut [u32; 32],
+    table: &mut [u64; 64],
     count: usize,
     word: usize,
     depth: usize,
     level: usize,
 ) -> Height
-    requires { ⌜ Fitting (now stack) top (now table) count × (count + owed (stackOf (now stack) top) + (beginCost (waitingOf word) + finishCost (waitingOf word)) ≤ 32) × (level ≤ 4) ⌝ }
+    requires { ⌜ Fitting (now stack) top (now table) count × (count + owed (stackOf (now stack) top) + (beginCost (waitingOf word) + finishCost (waitingOf word)) ≤ tableLength) × (level ≤ 4) ⌝ }
     ensures { λ r. ⌜ Builds (now (stack .exit)) (r .top) (now (table .exit)) (r .count) (waits (words formIn) depth (waitingOf word) (unwound (words formIn) (rank depth level) (stackOf (now (stack .entry)) top) (take count (now (table .entry))))) ⌝ }
 {
     let ended = unwind(stack, top, table, count, depth, level);
@@ -195,8 +195,8 @@ fn take_token(
     token: Token,
     progress: Progress,
     depth: usize,
-    stack: &mut [usize; 96],
-    table: &mut [u32; 32],
+    stack: &mut [usize; 192],
+    table: &mut [u64; 64],
 ) -> Progress
     requires { ⌜ Ready (now stack) (now table) progress token ⌝ }
     ensures { λ r. ⌜ Takes (now (stack .entry)) (now (table .entry)) progress depth token (now (stack .exit)) (now (table .exit)) r ⌝ }
@@ -237,12 +237,12 @@ fn take_token(
 }
 
 // The nodes of a text that questions 16 and 17 have let pass, at the start of the table. Hands back how many there are; where there are
-// more than 32, some number above, and the table holds nothing of use.
-pub(crate) fn write_nodes(text: &[u8], table: &mut [u32; 32]) -> usize
-    requires { ⌜ (question16 (now text) ≡ passed tt) × (question17 (now text) ≡ passed tt) × (length (now table) ≡ 32) ⌝ }
-    ensures { λ r. ⌜ TableOf (now (text .entry)) (now (table .exit)) r ⌝ }
+// more than allowed, some number above, and the table holds nothing of use.
+pub(crate) fn write_nodes(text: &[u8], allowed: usize, table: &mut [u64; 64]) -> usize
+    requires { ⌜ (question16 (now text) ≡ passed tt) × (question17 (now text) ≡ passed tt) × (allowed ≤ tableLength) × (length (now table) ≡ tableLength) ⌝ }
+    ensures { λ r. ⌜ TableOf (now (text .entry)) allowed (now (table .exit)) r ⌝ }
 {
-    let mut stack = [0usize; 96];
+    let mut stack = [0usize; 192];
     let mut progress = Progress {
         height: Height { top: 0, count: 0 },
         register: 0,
@@ -255,10 +255,10 @@ pub(crate) fn write_nodes(text: &[u8], table: &mut [u32; 32]) -> usize
         let read = read_token(text, at, s);
         // Question 16 has been asked: there is a token.
         let Lexed::Found { token, next } = read else {
-            return 33;
+            return 65;
         };
         total += nodes_for(token);
-        if 32 < total {
+        if allowed < total {
             return total;
         }
         progress = take_token(token, progress, s.depth, &mut stack, table);

@@ -1,65 +1,59 @@
--- `text::read_text` meets its contract. Assumes nothing.
-use mathlib.Core.Path.{sym, ap, _∙_}
+-- `text::read_text` meets its contract: what the table holds is narrowed (`AnswerLaws`). Assumes nothing.
+use Rattle.spec.specs.Rule.{form32}
+use Rattle.spec.proofs.StoredLaws.{good32}
+use Rattle.text.proofs.AnswerLaws.{filled-inside, filled-length, filled-room, filled-narrow, narrow-words, reads-kept, reads-written}
 use borrow.Author.Needs.{needs}
-use Rattle.rule.specs.Answers.{answerOf}
-use Rattle.text.proofs.AnswerLaws.{reads-grammar, reads-range, reads-tell}
 use Rattle.text.proofs.read_text.Statement.{statement}
 use Rattle.text.proofs.read_text.Tie as tie
 
-ask-grammar-requires : tie.Need-ask-grammar-requires
-ask-grammar-requires c κs = search needs
+fill-table-requires : tie.Need-fill-table-requires
+fill-table-requires c κs = search needs
 
-enum-known-grammar : tie.Need-enum-known-grammar
-enum-known-grammar c = search needs
-
-returns : tie.Need-returns
-returns c =
-    let s = c .before .before .before .before .before .before in
-    let x = reads-grammar (s .args .text .now) (s .args .out .now) _ _ (sym (ap answerOf (c .before .grammar .given .1)) ∙ c .before .before .before .ask-grammar .ensures) in (x .answer, (x .output, reads-tell _ _ _ _ x))
+enum-known-counted : tie.Need-enum-known-counted
+enum-known-counted c = search needs
 
 enum-told : tie.Need-enum-told
 enum-told c = search needs
 
-ask-range-requires : tie.Need-ask-range-requires
-ask-range-requires c κs = search needs
+returns : tie.Need-returns
+unfolding form32
+returns c =
+    let a = c .before .before .before .before .before .before .args in
+    reads-kept form32 good32 (a .text .now) (a .out .now) (c .before .before .fill-table .ensures) (c .enum-told .given .1)
 
-enum-known-range : tie.Need-enum-known-range
-enum-known-range c = search needs
+array-share-prefix-table : tie.Need-array-share-prefix-table
+array-share-prefix-table c = filled-inside (c .before .before .before .fill-table .ensures) (c .before .counted .given .1)
 
-returns-2 : tie.Need-returns-2
-returns-2 c =
-    let s = c .before .before .before .before .before .before .before .before .before in
-    let x = reads-range (s .args .text .now) (s .args .out .now) (sym (c .before .before .before .before .before .before .ask-grammar .ensures) ∙ ap answerOf (c .before .before .before .before .enum-told .given .1)) _ _ (sym (ap answerOf (c .before .range .given .1)) ∙ c .before .before .before .ask-range .ensures) in (x .answer, (x .output, reads-tell _ _ _ _ x))
+slice-aggregate-narrow-rule : tie.Need-slice-aggregate-narrow-rule
+slice-aggregate-narrow-rule c = filled-length (c .before .before .before .before .fill-table .ensures) (c .before .before .counted .given .1)
 
-enum-told-2 : tie.Need-enum-told-2
-enum-told-2 c = search needs
-
-write-table-requires : tie.Need-write-table-requires
-write-table-requires c κs = (
-  sym (c .before .before .before .before .before .before .ask-grammar .ensures) ∙ ap answerOf
-      (c .before .before .before .before .enum-told .given .1),
-  sym (c .before .before .before .ask-range .ensures) ∙ ap answerOf
-      (c .before .enum-told2 .given .1),
-)
+narrow-rule-requires : tie.Need-narrow-rule-requires
+narrow-rule-requires c κs =
+    let x = c .before .before .before .before .before .fill-table .ensures in
+    let e = c .before .before .before .counted .given .1 in
+    (filled-room x e, filled-narrow x e)
 
 same-length : tie.Need-same-length
 same-length c = search needs
 
-returns-3 : tie.Need-returns-3
-returns-3 c = let x = c .before .before .write-table .ensures in (x .answer, (x .output, reads-tell _ _ _ _ x))
+returns-2 : tie.Need-returns-2
+unfolding form32
+returns-2 c =
+    let a = c .before .before .before .before .before .before .before .before .before .before .before .before .args in
+    let x = c .before .before .before .before .before .before .before .before .fill-table .ensures in
+    let e = c .before .before .before .before .before .before .counted .given .1 in
+    reads-written form32 good32 (a .text .now) (a .out .now) x e (narrow-words x e) (c .before .before .narrow-rule .ensures)
 
 pub read-text-spec : {M : Type 1} → statement M
 read-text-spec =
     tie.close
     (tie.spec
-    ask-grammar-requires
-    enum-known-grammar
-    returns
+    fill-table-requires
+    enum-known-counted
     enum-told
-    ask-range-requires
-    enum-known-range
-    returns-2
-    enum-told-2
-    write-table-requires
+    returns
+    array-share-prefix-table
+    slice-aggregate-narrow-rule
+    narrow-rule-requires
     same-length
-    returns-3)
+    returns-2)

@@ -5,6 +5,7 @@ use native.Mathlib.Omega.{arith}
 use lib.ListN.{take}
 use Rattle.grammar.specs.Grammar.{constantWord, word}
 use Rattle.text.specs.Building.{putConstant, tokenCost}
+use Rattle.text.specs.Stacks.{tableLength}
 use Rattle.rule.specs.Nodes.{formIn}
 use Rattle.text.proofs.HoldLaws.{holds-as}
 use Rattle.text.proofs.table.put_constant.Statement.{statement}
@@ -14,13 +15,13 @@ put-true-requires : tie.Need-put-true-requires
 put-true-requires c κs =
     let s = c .before .before in
     let e = c .before .if1 .taken in
-    (subst (λ b. s .args .n + tokenCost (word (constantWord b)) ≤ 32) e (s .pre .0), s .pre .1)
+    (subst (λ b. s .args .n + tokenCost (word (constantWord b)) ≤ tableLength) e (s .pre .0), s .pre .1)
 
 put-false-requires : tie.Need-put-false-requires
 put-false-requires c κs =
     let s = c .before .before in
     let e = c .before .if1 .left in
-    let k = subst (λ b. s .args .n + tokenCost (word (constantWord b)) ≤ 32) e (s .pre .0) in (omega (arith, k), s .pre .1)
+    let k = subst (λ b. s .args .n + tokenCost (word (constantWord b)) ≤ tableLength) e (s .pre .0) in (omega (arith, k), s .pre .1)
 
 returns : tie.Need-returns
 returns c =

@@ -12,10 +12,10 @@ use Rattle.text.proofs.write.write_nodes.Statement.{statement}
 use Rattle.text.proofs.write.write_nodes.Tie as tie
 
 abbrev Inv-loop : tie.InvT-loop
-Inv-loop text table₀ stack₀ progress₀ s₀ total₀ at₀ table stack progress s total at = Writing text stack table progress s total at
+Inv-loop text allowed table₀ stack₀ progress₀ s₀ total₀ at₀ table stack progress s total at = Writing text allowed stack table progress s total at
 
 abbrev μ-loop : tie.MeasureT-loop
-μ-loop text table₀ stack₀ progress₀ s₀ total₀ at₀ table stack progress s total at = length text - at
+μ-loop text allowed table₀ stack₀ progress₀ s₀ total₀ at₀ table stack progress s total at = length text - at
 
 wanting-requires : tie.Need-wanting-requires Inv-loop μ-loop
 wanting-requires c κs = search needs
@@ -23,7 +23,7 @@ wanting-requires c κs = search needs
 loop-holds : tie.Need-loop-holds Inv-loop μ-loop
 loop-holds c =
     let s = c .before .before in
-    writing-start (s .args .text .now) (s .args .table .now) (c .wanting .result) (s .pre .0) (s .pre .1) (s .pre .2) (c .wanting .ensures)
+    writing-start (s .args .text .now) (s .args .allowed) (s .args .table .now) (c .wanting .result) (s .pre .0) (s .pre .1) (s .pre .2) (s .pre .3) (c .wanting .ensures)
 
 read-token-requires : tie.Need-read-token-requires Inv-loop μ-loop
 read-token-requires c κs = search needs
@@ -37,7 +37,7 @@ enum-told c = search needs
 returns : tie.Need-returns Inv-loop μ-loop
 returns c =
     let l = c .before .before .before .before .loop in
-    writing-stuck _ _ _ _ _ _ _ (l .inv) _ (subst (Reads (c .before .before .before .before .before .before .before .args .text .now) (l .at)
+    writing-stuck _ _ _ _ _ _ _ _ (l .inv) _ (subst (Reads (c .before .before .before .before .before .before .before .args .text .now) (l .at)
     (l .s .want) (l .s .depth) (l .s .touching)) (c .enum-told .given .1) (c .before .before .read-token .ensures))
 
 nodes-for-requires : tie.Need-nodes-for-requires Inv-loop μ-loop
@@ -57,14 +57,14 @@ returns-2 : tie.Need-returns-2 Inv-loop μ-loop
 returns-2 c =
     let s = c .before .before .before .before .before .before .before .before .before .before in
     let l = c .before .before .before .before .before .before .before .loop in
-    subst (λ n. TableOf (s .args .text .now) (l .table) (l .total + n)) (sym (c .before .nodes-for .ensures)) (writing-many _ _ _ _ _ _ _ (l .inv) _ _
+    subst (λ n. TableOf (s .args .text .now) (s .args .allowed) (l .table) (l .total + n)) (sym (c .before .nodes-for .ensures)) (writing-many _ _ _ _ _ _ _ _ (l .inv) _ _
     (subst (Reads (s .args .text .now) (l .at) (l .s .want) (l .s .depth) (l .s .touching)) (c .before .before .before .read .given .1)
     (c .before .before .before .before .before .read-token .ensures)) _ (omega (arith, c .if1 .taken, c .before .nodes-for .ensures)))
 
 take-token-requires : tie.Need-take-token-requires Inv-loop μ-loop
 take-token-requires c κs =
     let l = c .before .before .before .before .before .before .before .before .before .loop in
-    writing-ready _ _ _ _ _ _ _ (l .inv) _ _ (subst (Reads
+    writing-ready _ _ _ _ _ _ _ _ (l .inv) _ _ (subst (Reads
     (c .before .before .before .before .before .before .before .before .before .before .before .before .args .text .now) (l .at) (l .s .want)
     (l .s .depth) (l .s .touching)) (c .before .before .before .before .before .read .given .1)
     (c .before .before .before .before .before .before .before .read-token .ensures)) (omega
@@ -88,9 +88,9 @@ loop-again c =
     let l = c .before .before .before .before .before .before .before .before .before .before .before .loop in
     let read = c .before .before .before .before .before .before .before .read in
     let nodes-for = c .before .before .before .before .before .nodes-for in
-    subst (λ n. Writing (s .args .text .now) (c .before .take-token .last .1 .1 .1 .0) (c .before .take-token .last .1 .1 .1 .1 .0)
+    subst (λ n. Writing (s .args .text .now) (s .args .allowed) (c .before .take-token .last .1 .1 .1 .0) (c .before .take-token .last .1 .1 .1 .1 .0)
     (c .before .take-token .result) (c .after-token .result) (l .total + n) (read .given .0 .1 .0)) (sym (nodes-for .ensures))
-    (writing-next _ _ _ _ _ _ _ (l .inv) _ _ (subst (Reads (s .args .text .now) (l .at) (l .s .want) (l .s .depth) (l .s .touching)) (read .given .1)
+    (writing-next _ _ _ _ _ _ _ _ (l .inv) _ _ (subst (Reads (s .args .text .now) (l .at) (l .s .want) (l .s .depth) (l .s .touching)) (read .given .1)
     (c .before .before .before .before .before .before .before .before .before .read-token .ensures)) (omega
     (arith, c .before .before .before .before .if1 .left, nodes-for .ensures)) _ _ (c .before .take-token .result) (c .after-token .result)
     (c .before .take-token .ensures) (c .after-token .ensures))
@@ -100,7 +100,7 @@ unwind-requires c κs = (c .before .before .before .before .loop .inv .fits, ome
 
 returns-3 : tie.Need-returns-3 Inv-loop μ-loop
 returns-3 c =
-    writing-end _ _ _ _ _ _ _ (c .before .before .before .before .before .loop .inv) (c .before .before .before .before .loop-test .left) _ _ _
+    writing-end _ _ _ _ _ _ _ _ (c .before .before .before .before .before .loop .inv) (c .before .before .before .before .loop-test .left) _ _ _
     (c .unwind .ensures)
 
 pub write-nodes-spec : {M : Type 1} → statement M
