@@ -21,7 +21,7 @@ use lib.ListN.{length, getD, set, length-set, replicate, length-replicate}
 use lib.Seq.{getD-set-same, getD-set-other}
 use borrow.Author.Tests.{ltb-true}
 use Rattle.spec.specs.Questions.{passed}
-use Rattle.spec.specs.Rule.{form32, Table}
+use Rattle.spec.specs.Rule.{form64, Table}
 use Rattle.spec.specs.Script.{instructionRead, Code, bareCode, instructionAt, targetOf, goesOn, namesAllowed, isLine, followersExist, Instruction}
 use Rattle.spec.specs.Facts.{wordNumber, Facts, _⊑_, belongs, close, pass, firstFacts}
 use Rattle.spec.specs.Check.{passedOn}
@@ -64,7 +64,7 @@ module _ (rule ws : List ℕ) (asked : Asked rule ws) where
   ordered = ready formIn rule ws asked .ordered
 
   pub few-nodes : length rule ≤ capacity
-  unfolding form32
+  unfolding form64
   few-nodes = omega (arith, ready formIn rule ws asked .few, length-table formIn rule)
 
   pub rule-passed : RulePasses rule

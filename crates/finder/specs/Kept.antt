@@ -1,4 +1,5 @@
 -- The words of the lines found, from the notes as they are kept.
+use mathlib.Core.Bool.{Bool}
 use mathlib.Core.List.{List, [], _++_}
 use Prim.Native.Nat.{ℕ, zero, suc}
 use lib.ListN.{getD}
@@ -11,5 +12,5 @@ gather g zero = []
 gather g (suc n) = gather g n ++ g n
 
 -- of the lines with these instruction words and the notes kept
-abbrev pub keptLines : (instructions notes : List ℕ) → ℕ → List ℕ
-keptLines ws notes n = gather (λ l. storedLine (getD ws l 0) (notesAt notes l)) n
+abbrev pub keptLines : (isWide : Bool) → (instructions notes : List ℕ) → ℕ → List ℕ
+keptLines isWide ws notes n = gather (λ l. storedLine isWide (getD ws l 0) (notesAt notes l)) n

@@ -13,7 +13,7 @@ ghost use Rattle.rule.specs.Nodes.{tableIn};
 ghost use Rattle.finder.specs.Rows.{linesFound, presentsAsked, Asked, LargestAt};
 
 // The largest facts are closed.
-fn known_at(rule: &[u32], code: &[u32], notes: &[u64], l: usize) -> bool
+fn known_at(rule: &[u64], code: &[u32], notes: &[u64], l: usize) -> bool
     requires { ⌜ Asked (now rule) (now code) × LargestAt (now rule) (now code) (now notes) × (7 * length (now code) ≤ length (now notes)) × (l < length (now code)) ⌝ }
     ensures { λ r. ⌜ r ≡ presentKnown (tableIn (now (rule .entry))) (lineAt (linesFound (now (rule .entry)) (now (code .entry))) l) ⌝ }
 {
@@ -25,7 +25,7 @@ fn known_at(rule: &[u32], code: &[u32], notes: &[u64], l: usize) -> bool
     }
 }
 
-pub(crate) fn ask_known(rule: &[u32], code: &[u32], notes: &[u64]) -> Answer
+pub(crate) fn ask_known(rule: &[u64], code: &[u32], notes: &[u64]) -> Answer
     requires { ⌜ Asked (now rule) (now code) × LargestAt (now rule) (now code) (now notes) × (7 * length (now code) ≤ length (now notes)) ⌝ }
     ensures { λ r. ⌜ answerOf r ≡ presentsAsked (now (rule .entry)) (now (code .entry)) ⌝ }
 {

@@ -8,8 +8,8 @@ ghost use Prim.Native.Nat.{_*_, _≤_};
 ghost use lib.ListN.{length};
 ghost use Rattle.largest.specs.Largest.{factsIn, countFacts};
 ghost use Rattle.sets.specs.Sets.{capacity};
+ghost use Rattle.rule.specs.Nodes.{storedIn, Put};
 ghost use Rattle.facts.specs.FactSets.{factsOf};
-ghost use Rattle.facts.specs.Written.{over};
 ghost use Rattle.finder.specs.Rows.{notesAt};
 ghost use Rattle.finder.specs.Kept.{keptLines};
 
@@ -21,16 +21,22 @@ fn count_facts(x: Facts) -> u32
 }
 
 // Hands back how many facts the lines have.
-pub(crate) fn put_lines(code: &[u32], notes: &[u64], out: &mut [u32]) -> usize
-    requires { ⌜ (7 * length (now code) ≤ length (now notes)) × (8 * length (now code) ≤ length (now out)) × (length (now code) ≤ 1024) ⌝ }
+pub(crate) fn put_lines(
+    code: &[u32],
+    notes: &[u64],
+    narrow: &mut [u32],
+    wide: &mut [u64],
+    is_wide: bool,
+) -> usize
+    requires { ⌜ (7 * length (now code) ≤ length (now notes)) × (8 * length (now code) ≤ length (storedIn «is_wide» (now narrow) (now wide))) × (length (now code) ≤ 1024) ⌝ }
     ensures { λ r. ⌜ (r ≡ countFacts capacity (length (now (code .entry))) (notesAt (now (notes .entry))))
-        × (now (out .exit) ≡ over (keptLines (now (code .entry)) (now (notes .entry)) (length (now (code .entry)))) (now (out .entry))) ⌝ }
+        × Put «is_wide» 0 (keptLines «is_wide» (now (code .entry)) (now (notes .entry)) (length (now (code .entry)))) (now (narrow .entry)) (now (wide .entry)) (now (narrow .exit)) (now (wide .exit)) ⌝ }
 {
     let mut total = 0usize;
     let mut l = 0;
     while l < code.len() {
         let x = load(notes, l);
-        put_line(code[l], x, &mut out[8 * l..]);
+        put_line(code[l], x, l, narrow, wide, is_wide);
         total += count_facts(x) as usize;
         l += 1;
     }

@@ -26,7 +26,7 @@ ghost use Rattle.finder.specs.Rows.{HasLine, Room, Asked, WayDone, Searc
 
 // One way out of a line with the closed facts x: line m, if it follows, keeps what is passed on. Whether some of its notes went.
 fn push_to(
-    rule: &[u32],
+    rule: &[u64],
     word: u32,
     taken: bool,
     follows: bool,
@@ -49,7 +49,7 @@ fn push_to(
 }
 
 // Line l's followers keep what it passes on. Whether some notes changed.
-fn push(rule: &[u32], code: &[u32], notes: &mut [u64], flags: &mut [u64], l: usize) -> bool
+fn push(rule: &[u64], code: &[u32], notes: &mut [u64], flags: &mut [u64], l: usize) -> bool
     requires { ⌜ Asked (now rule) (now code) × Room (length (now code)) (now notes) (now flags) × (l < length (now code))
         × Search (tableIn (now rule)) (bareCode (now code)) (now notes) (now flags) ⌝ }
     ensures { λ r. ⌜ Pushed (now (rule .entry)) (now (code .entry)) (now (notes .entry)) (now (flags .entry)) l (now (notes .exit)) (now (flags .exit)) r ⌝ }
@@ -64,7 +64,7 @@ fn push(rule: &[u32], code: &[u32], notes: &mut [u64], flags: &mut [u64], l: usi
 }
 
 // Every line with a flag is pushed, in rising order, also those that get one on the way. Whether some notes changed.
-fn sweep(rule: &[u32], code: &[u32], notes: &mut [u64], flags: &mut [u64]) -> bool
+fn sweep(rule: &[u64], code: &[u32], notes: &mut [u64], flags: &mut [u64]) -> bool
     requires { ⌜ Asked (now rule) (now code) × Room (length (now code)) (now notes) (now flags)
         × Search (tableIn (now rule)) (bareCode (now code)) (now notes) (now flags) ⌝ }
     ensures { λ r. ⌜ Swept (now (rule .entry)) (now (code .entry)) (now (notes .entry)) (now (flags .entry)) (now (notes .exit)) (now (flags .exit)) r (length (now (code .entry))) ⌝ }
@@ -79,7 +79,7 @@ fn sweep(rule: &[u32], code: &[u32], notes: &mut [u64], flags: &mut [u64]) -> bo
 }
 
 // Sweeps until nothing changes.
-fn settle(rule: &[u32], code: &[u32], notes: &mut [u64], flags: &mut [u64])
+fn settle(rule: &[u64], code: &[u32], notes: &mut [u64], flags: &mut [u64])
     requires { ⌜ Asked (now rule) (now code) × Room (length (now code)) (now notes) (now flags)
         × Search (tableIn (now rule)) (bareCode (now code)) (now notes) (now flags) ⌝ }
     ensures { λ _. ⌜ Settled (now (rule .entry)) (now (code .entry)) (now (notes .entry)) (now (flags .entry)) (now (notes .exit)) (now (flags .exit)) ⌝ }
@@ -91,7 +91,7 @@ fn settle(rule: &[u32], code: &[u32], notes: &mut [u64], flags: &mut [u64])
 }
 
 // Every line has all that belongs and a flag, and line 0 the first facts.
-fn prepare(rule: &[u32], code: &[u32], notes: &mut [u64], flags: &mut [u64])
+fn prepare(rule: &[u64], code: &[u32], notes: &mut [u64], flags: &mut [u64])
     requires { ⌜ Asked (now rule) (now code) × Room (length (now code)) (now notes) (now flags) ⌝ }
     ensures { λ _. ⌜ (length (now (notes .exit)) ≡ length (now (notes .entry))) × (length (now (flags .exit)) ≡ length (now (flags .entry)))
         × Search (tableIn (now (rule .entry))) (bareCode (now (code .entry))) (now (notes .exit)) (now (flags .exit)) ⌝ }
@@ -105,7 +105,7 @@ fn prepare(rule: &[u32], code: &[u32], notes: &mut [u64], flags: &mut [u64])
 }
 
 // The largest notes, in the lent notes.
-pub(crate) fn find_in(rule: &[u32], code: &[u32], notes: &mut [u64], flags: &mut [u64])
+pub(crate) fn find_in(rule: &[u64], code: &[u32], notes: &mut [u64], flags: &mut [u64])
     requires { ⌜ Asked (now rule) (now code) × Room (length (now code)) (now notes) (now flags) ⌝ }
     ensures { λ _. ⌜ (length (now (notes .exit)) ≡ length (now (notes .entry))) × LargestAt (now (rule .entry)) (now (code .entry)) (now (notes .exit)) ⌝ }
 {

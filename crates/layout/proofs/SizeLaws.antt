@@ -2,7 +2,7 @@
 --     SizedTo, own-at, size-at, sized-next   a table of sizes as it is filled: the next node's size, from those kept for lower nodes
 --     decide-few                         deciding a node takes no more lines than a block has: it is part of one
 --     countedTo, counted-none, counted-next, counted-all     a block's lines, node by node
---     nodes-few, block-few, node-few, own-few     an accepted rule has at most 32 nodes, so a block and a decision at most 481 lines
+--     nodes-few, block-few, node-few, own-few     an accepted rule has at most 64 nodes, so a block and a decision at most 961 lines
 --     since-lines, weak-lines, shared-lines, no-lines        what a node accounts for, by what it is
 -- Assumes nothing.
 use mathlib.Core.Path.{_≡_, refl, sym, ap, ap₂, _∙_}
@@ -18,7 +18,7 @@ use lib.Seq.{getD-set-same, getD-set-other}
 use lib.Dec.{eqb, ltb}
 use borrow.Author.Tests.{ltb-true, eqb-true}
 use Rattle.spec.specs.Questions.{all, count, sum}
-use Rattle.spec.specs.Rule.{form32, Node, falseNode, testNode, impliesNode, sinceNode, weakPreviousNode, Table, nodeAt, lastNode, isFalse, isSince, isWeakPrevious, isPast, operands, mentions, isShared}
+use Rattle.spec.specs.Rule.{form64, Node, falseNode, testNode, impliesNode, sinceNode, weakPreviousNode, Table, nodeAt, lastNode, isFalse, isSince, isWeakPrevious, isPast, operands, mentions, isShared}
 use Rattle.spec.specs.Weaver.{sizeFrom, decideSize, updateSize, sharedSize, workSize, updatesSize, blockSize, isTestNode, sharingLines, blockLines}
 use Rattle.spec.proofs.BoolLaws.{and-both, decided, le-or-lt}
 use Rattle.spec.proofs.RuleLaws.{InOrder, both-lower, one-lower, length-table, rule-out}
@@ -236,11 +236,11 @@ lines-few t ordered =
 -- ---- an accepted rule
 
 module _ (rule : List ℕ) (accepted : RulePasses rule) where
-  pub nodes-few : length rule ≤ 32
-  unfolding form32
+  pub nodes-few : length rule ≤ 64
+  unfolding form64
   nodes-few = rule-out formIn rule accepted .few-nodes
 
-  pub block-few : blockSize (tableIn rule) ≤ 481
+  pub block-few : blockSize (tableIn rule) ≤ 961
   block-few = omega (
     arith,
     nodes-few,
@@ -249,22 +249,22 @@ module _ (rule : List ℕ) (accepted : RulePasses rule) where
     lines-few (tableIn rule) (rule-out formIn rule accepted .ordered),
   )
 
-  pub counted-few : (n : ℕ) → n ≤ length rule → countedTo (tableIn rule) n ≤ 481
+  pub counted-few : (n : ℕ) → n ≤ length rule → countedTo (tableIn rule) n ≤ 961
   counted-few n h =
       let same = length-table formIn rule in
       omega (arith, block-few, counted-within (tableIn rule) (length rule - n) n (omega arith))
 
-  pub node-few : (k : ℕ) → k < length rule → decideSize (tableIn rule) k ≤ 481
+  pub node-few : (k : ℕ) → k < length rule → decideSize (tableIn rule) k ≤ 961
   node-few k h =
       let r = rule-out formIn rule accepted in
       let inside : k < length (tableIn rule) = omega (arith, length-table formIn rule) in
       let few = decide-few (tableIn rule) (r .ordered) (r .mentioned) k inside in
       omega (arith, block-few)
 
-  pub own-few : (k : ℕ) → k < length rule → sizeFrom (decideSize (tableIn rule)) (nodeAt (tableIn rule) k) k ≤ 962
+  pub own-few : (k : ℕ) → k < length rule → sizeFrom (decideSize (tableIn rule)) (nodeAt (tableIn rule) k) k ≤ 1922
   own-few k h = go (nodeAt (tableIn rule) k) (rule-out formIn rule accepted .ordered .lower k)
     where
-      go : (x : Node) → all (λ j. ltb j k) (operands x) ≡ true → sizeFrom (decideSize (tableIn rule)) x k ≤ 962
+      go : (x : Node) → all (λ j. ltb j k) (operands x) ≡ true → sizeFrom (decideSize (tableIn rule)) x k ≤ 1922
       go falseNode o = omega arith
       go (testNode a) o = omega arith
       go (impliesNode l r) o = let (a, b) = both-lower k l r o in omega (arith, node-few l (omega arith), node-few r (omega arith))
@@ -290,7 +290,7 @@ module _ (rule sizes : List ℕ) (k : ℕ) (sized : Sized rule sizes) (inside : 
 
   -- a since node: its operands' sizes, and the lines
   pub since-lines : (left right : ℕ) → nodeAt table k ≡ sinceNode left right
-      → (getD sizes right 0 ≤ 481) × (getD sizes left 0 ≤ 481) × (getD sizes right 0 + getD sizes left 0 + 6 ≡ accounted)
+      → (getD sizes right 0 ≤ 961) × (getD sizes left 0 ≤ 961) × (getD sizes right 0 + getD sizes left 0 + 6 ≡ accounted)
   unfolding updateSize
   since-lines left right e =
       let (a, b) = both-lower k left right (rw e at (rule-out formIn rule (sized .0) .ordered .lower k)) in
@@ -302,7 +302,7 @@ module _ (rule sizes : List ℕ) (k : ℕ) (sized : Sized rule sizes) (inside : 
       )
 
   -- a weak previous node, likewise
-  pub weak-lines : (left : ℕ) → nodeAt table k ≡ weakPreviousNode left → (getD sizes left 0 ≤ 481) × (getD sizes left 0 + 4 ≡ accounted)
+  pub weak-lines : (left : ℕ) → nodeAt table k ≡ weakPreviousNode left → (getD sizes left 0 ≤ 961) × (getD sizes left 0 + 4 ≡ accounted)
   unfolding updateSize
   weak-lines left e =
       let a = one-lower k left (rw e at (rule-out formIn rule (sized .0) .ordered .lower k)) in

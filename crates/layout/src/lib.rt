@@ -54,7 +54,7 @@ fn mention_size(sizes: &[u16], shared: u64, k: usize, x: Node) -> u16
     }
 }
 
-fn fill_sizes(rule: &[u32], shared: u64, sizes: &mut [u16])
+fn fill_sizes(rule: &[u64], shared: u64, sizes: &mut [u16])
     requires { ⌜ RulePasses (now rule) × Shared (now rule) shared × (64 ≤ length (now sizes)) ⌝ }
     ensures { λ r. ⌜ Sized (now (rule .entry)) (now (sizes .exit)) ⌝ }
 {
@@ -66,7 +66,7 @@ fn fill_sizes(rule: &[u32], shared: u64, sizes: &mut [u16])
 }
 
 // How many lines deciding a mention of each node of an accepted rule takes.
-pub fn measure_nodes(rule: &[u32], shared: u64, sizes: &mut [u16; 64])
+pub fn measure_nodes(rule: &[u64], shared: u64, sizes: &mut [u16; 64])
     requires { ⌜ RulePasses (now rule) × Shared (now rule) shared ⌝ }
     ensures { λ r. ⌜ Sized (now (rule .entry)) (now (sizes .exit)) ⌝ }
 {
@@ -74,7 +74,7 @@ pub fn measure_nodes(rule: &[u32], shared: u64, sizes: &mut [u16; 64])
 }
 
 // How many lines of a block node k accounts for: its code and, if it is a past node, its 12.
-fn node_lines(rule: &[u32], sizes: &[u16; 64], shared: u64, k: usize) -> usize
+fn node_lines(rule: &[u64], sizes: &[u16; 64], shared: u64, k: usize) -> usize
     requires { ⌜ Sized (now rule) (now sizes) × Shared (now rule) shared × (k < length (now rule)) ⌝ }
     ensures { λ r. ⌜ r ≡ workSize (tableIn (now (rule .entry))) k + cond (isPast (nodeAt (tableIn (now (rule .entry))) k)) 1 0 ⌝ }
 {
@@ -93,7 +93,7 @@ fn node_lines(rule: &[u32], sizes: &[u16; 64], shared: u64, k: usize) -> usize
 }
 
 // How many lines a block has.
-pub fn block_size(rule: &[u32], sizes: &[u16; 64], shared: u64) -> usize
+pub fn block_size(rule: &[u64], sizes: &[u16; 64], shared: u64) -> usize
     requires { ⌜ Sized (now rule) (now sizes) × Shared (now rule) shared ⌝ }
     ensures { λ r. ⌜ r ≡ blockSize (tableIn (now (rule .entry))) ⌝ }
 {
@@ -135,7 +135,7 @@ pub fn count_lines(bare: &[u32], size: usize) -> usize
     start_after(bare, size, 0, 0, bare.len())
 }
 
-fn fill_starts(rule: &[u32], bare: &[u32], size: usize, starts: &mut [u16])
+fn fill_starts(rule: &[u64], bare: &[u32], size: usize, starts: &mut [u16])
     requires { ⌜ Weavable (now rule) (now bare) × (size ≡ blockSize (tableIn (now rule))) × (64 ≤ length (now starts)) ⌝ }
     ensures { λ r. ⌜ Started (now (rule .entry)) (now (bare .entry)) (now (starts .exit)) size ⌝ }
 {
@@ -151,7 +151,7 @@ fn fill_starts(rule: &[u32], bare: &[u32], size: usize, starts: &mut [u16])
 }
 
 // Where every 16th bare line starts. The rule is not looked at: it says what a block is.
-pub fn mark_starts(rule: &[u32], bare: &[u32], size: usize, starts: &mut [u16; 64])
+pub fn mark_starts(rule: &[u64], bare: &[u32], size: usize, starts: &mut [u16; 64])
     requires { ⌜ Weavable (now rule) (now bare) × (size ≡ blockSize (tableIn (now rule))) ⌝ }
     ensures { λ r. ⌜ Started (now (rule .entry)) (now (bare .entry)) (now (starts .exit)) size ⌝ }
 {
@@ -159,7 +159,7 @@ pub fn mark_starts(rule: &[u32], bare: &[u32], size: usize, starts: &mut [u16; 6
 }
 
 // Where bare line l starts.
-pub fn start_of(rule: &[u32], bare: &[u32], starts: &[u16; 64], size: usize, l: usize) -> usize
+pub fn start_of(rule: &[u64], bare: &[u32], starts: &[u16; 64], size: usize, l: usize) -> usize
     requires { ⌜ Started (now rule) (now bare) (now starts) size × (l < length (now bare)) ⌝ }
     ensures { λ r. ⌜ r ≡ startOf (tableIn (now (rule .entry))) (bareCode (now (bare .entry))) l ⌝ }
 {
@@ -168,7 +168,7 @@ pub fn start_of(rule: &[u32], bare: &[u32], starts: &[u16; 64], size: usize, l: 
 }
 
 // The word of bare line l, a line other than present, with its target moved to where that line starts.
-pub fn moved_word(rule: &[u32], bare: &[u32], starts: &[u16; 64], size: usize, l: usize) -> u32
+pub fn moved_word(rule: &[u64], bare: &[u32], starts: &[u16; 64], size: usize, l: usize) -> u32
     requires { ⌜ Started (now rule) (now bare) (now starts) size × (l < length (now bare)) ⌝ }
     ensures { λ r. ⌜ r ≡ wordFor (retarget (startOf (tableIn (now (rule .entry))) (bareCode (now (bare .entry)))) (instructionRead (getD (now (bare .entry)) l 0))) ⌝ }
 {

@@ -1,19 +1,19 @@
 -- A block, part after part.
---     updatingSeries, keepingSeries     the past nodes' code and the 12 lines, a node at a time
---     updatable-room, keep-length, keeps-length, all-keeps, keeping-room, keeping-few    how many lines they have
---     updating-node                     a node's code can be written where the loop has come to
+--     updatingSeries, keepingSeries     the code of the nodes with a work bit and the 12 lines, a node at a time
+--     keep-length, all-keeps, keeping-room, keeping-few    how many lines the 12s have
+--     updatable-room, updating-few, updating-node, updating-size, updating-code    a node's code can be written where the loop has come to
 --     present-code                      the present and the 12 lines
---     guard-last, guard-size, guard-code, guard-rest     deciding the last node, and the rest
---     block-updatable, block-guarding, block-code        the block
+--     guard-few, guard-size, guard-last, guard-length, guard-code    deciding the last node, and the rest
+--     block-updatable, block-few, block-room, block-guarding, updates-length, block-code    the block
 -- Assumes nothing.
 use mathlib.Core.Path.{_≡_, refl, sym, ap, ap₂, _∙_}
 use mathlib.Core.Bool.{Bool, true, false, cond}
 use mathlib.Core.List.{List, [], _∷_, _++_, append-assoc}
 use Prim.Native.Nat.{ℕ, suc, _+_, _-_, _*_, _≤_, _<_}
 use native.Mathlib.Omega.{arith}
-use lib.ListN.{length, getD, length-append}
+use lib.ListN.{length, getD}
 use Rattle.spec.specs.Questions.{count}
-use Rattle.spec.specs.Rule.{form32, Table, nodeAt, lastNode, isPast}
+use Rattle.spec.specs.Rule.{form64, Table, nodeAt, lastNode, isPast}
 use Rattle.spec.specs.Script.{keep, present}
 use Rattle.spec.specs.Facts.{valueIs, Facts, _∪_, one}
 use Rattle.spec.specs.Check.{Lines}
@@ -22,9 +22,9 @@ use Rattle.spec.proofs.RuleLaws.{InOrder, length-table, rule-out}
 use Rattle.spec.proofs.WeaverLaws.{pasts-count, length-decide, length-updates, length-keeps, length-work}
 use Rattle.weaver.specs.Laid.{Deciding, Updatable, Guarding, Blocking, Working}
 use Rattle.weaver.specs.Parts.{presentLines, guardLines}
-use Rattle.rule.specs.Nodes.{tableIn, formIn}
-use Rattle.facts.specs.Written.{written}
-use Rattle.weaver.proofs.SeriesLaws.{Series, Filled, filled-room, filled-part}
+use Rattle.rule.specs.Nodes.{tableIn, formIn, storedIn}
+use Rattle.facts.specs.Written.{Space}
+use Rattle.weaver.proofs.SeriesLaws.{Series, Filled, filled-part}
 
 -- ---- a node at a time
 
@@ -70,8 +70,8 @@ keeps-length t = length-keeps (length t) t ∙ pasts-count t
 pub all-keeps : (rule : List ℕ) → length (keeps (length rule) (tableIn rule)) ≡ count isPast (tableIn rule)
 all-keeps rule = ap (λ n. length (keeps n (tableIn rule))) (sym (length-table formIn rule)) ∙ keeps-length (tableIn rule)
 
-pub keeping-room : (rule out : List ℕ) → 8 * count isPast (tableIn rule) ≤ length out → 8 * length (keeps (length rule) (tableIn rule)) ≤ length out
-keeping-room rule out h = omega (arith, all-keeps rule)
+pub keeping-room : (rule : List ℕ) (at : ℕ) (out : List ℕ) → Space at (count isPast (tableIn rule)) out → 8 * (at + length (keeps (length rule) (tableIn rule))) ≤ length out
+keeping-room rule at out h = omega (arith, all-keeps rule)
 
 one-more : (b : Bool) (m n : ℕ) → m ≤ n → cond b 1 0 + m ≤ suc n
 one-more true m n h = omega arith
@@ -86,51 +86,56 @@ keeping-few rule h = omega (arith, all-keeps rule, count-few (tableIn rule), len
 
 -- ---- the code of the nodes with a work bit
 
-module _ (rule sizes : List ℕ) (shared : ℕ) (place : ℕ) (out₀ : List ℕ) (u : Updatable rule sizes shared place out₀) where
+module _ (rule sizes : List ℕ) (shared : ℕ) (b : Bool) (place : ℕ) (n₀ w₀ : List ℕ) (u : Updatable rule sizes shared place (storedIn b n₀ w₀)) where
   order : InOrder (tableIn rule)
   order = rule-out formIn rule (u .sized .0) .ordered
 
   all-updates : length (updates (length rule) (tableIn rule) place) ≡ updatesSize (length rule) (tableIn rule)
   all-updates = length-updates (tableIn rule) order (length rule) place
 
-  pub updatable-room : 8 * length (updates (length rule) (tableIn rule) place) ≤ length out₀
+  pub updatable-room : 8 * (0 + length (updates (length rule) (tableIn rule) place)) ≤ length (storedIn b n₀ w₀)
   updatable-room = let o = u .inOutput in omega (arith, all-updates)
 
-  module _ (out : List ℕ) (n k : ℕ) (i : Filled (updatingSeries (tableIn rule) place) out₀ out n k) (h : k < length rule) where
+  module _ (n w : List ℕ) (c k : ℕ) (i : Filled (updatingSeries (tableIn rule) place) b 0 n₀ w₀ n w c k) (h : k < length rule) where
     abbrev code : ℕ → Facts → Lines
     code p F = workCode (tableIn rule) k p F
 
-    pub line-count : n ≡ updatesSize k (tableIn rule)
+    pub line-count : c ≡ updatesSize k (tableIn rule)
     line-count = i .0 ∙ length-updates (tableIn rule) order k place
 
     part-count : length (code (place + updatesSize k (tableIn rule)) (doneFacts (tableIn rule) k)) ≡ workSize (tableIn rule) k
     part-count = length-work (tableIn rule) order k _ _
 
-    pub updating-few : (8 * n ≤ length out) × (place + n < 1024) × (n + workSize (tableIn rule) k < 1024) × (length out ≡ length out₀)
-    updating-few =
-        let r = filled-room (updatingSeries (tableIn rule) place) out₀ out n k (length rule) i (omega arith) updatable-room in
-        let q = filled-part (updatingSeries (tableIn rule) place) out₀ out n k (length rule) i (omega arith) updatable-room h in
-        let s = u .inScript in
-        (omega arith, omega (arith, all-updates), omega (arith, all-updates, part-count), r .1)
+    -- the lines of the first k nodes and of node k
+    part-within : c + workSize (tableIn rule) k ≤ updatesSize (length rule) (tableIn rule)
+    part-within =
+        let q = filled-part (updatingSeries (tableIn rule) place) b 0 n₀ w₀ n w c k (length rule) i (omega arith) updatable-room h in
+        omega (arith, all-updates, part-count)
 
-    pub updating-node : (p : List ℕ) → length p ≡ length out - 8 * n → Working rule sizes shared k (place + n) p
-    updating-node p e =
-        let q = filled-part (updatingSeries (tableIn rule) place) out₀ out n k (length rule) i (omega arith) updatable-room h in
+    pub updating-few : (place + c < 1024) × (c + workSize (tableIn rule) k < 1024)
+    updating-few = let q = part-within in let s = u .inScript in (omega arith, omega arith)
+
+    pub updating-node : Working rule sizes shared k place (place + c) (storedIn b n w)
+    updating-node =
+        let q = part-within in
         let s = u .inScript in
+        let o = u .inOutput in
+        let m = i .1 .sameLength in
         record {
           sized = u .sized;
           sharedIs = u .sharedIs;
           isNode = h;
-          inScript = omega (arith, all-updates, part-count);
-          inOutput = omega (arith, part-count, e);
+          inScript = omega arith;
+          fromBase = omega arith;
+          inOutput = omega arith;
         }
 
     pub updating-size : (m : ℕ) → m ≡ workSize (tableIn rule) k → m ≡ length (code (place + updatesSize k (tableIn rule)) (doneFacts (tableIn rule) k))
     updating-size m e = e ∙ sym part-count
 
-    pub updating-code : (F : Facts) (o : List ℕ) → F ≡ doneFacts (tableIn rule) k
-        → written (code (place + n) F) o ≡ written (code (place + updatesSize k (tableIn rule)) (doneFacts (tableIn rule) k)) o
-    updating-code F o e = ap₂ (λ m G. written (code (place + m) G) o) line-count e
+    pub updating-code : (F : Facts) → F ≡ doneFacts (tableIn rule) k
+        → code (place + c) F ≡ code (place + updatesSize k (tableIn rule)) (doneFacts (tableIn rule) k)
+    updating-code F e = ap₂ (λ m G. code (place + m) G) line-count e
 
 -- ---- the present and the 12 lines
 
@@ -139,27 +144,23 @@ unfolding presentLines
 present-code rule F =
     ap (λ n. line present (F ∪ one (valueIs true) (n - 1)) ∷ keeps n (tableIn rule)) (sym (length-table formIn rule))
 
-present-length : (t : Table) (F : Facts) → length (presentLines t F) ≡ 1 + count isPast t
-unfolding presentLines
-present-length t F = omega (arith, keeps-length t)
-
 -- ---- deciding the last node
 
-module _ (rule sizes : List ℕ) (shared : ℕ) (place end : ℕ) (out : List ℕ) (g : Guarding rule sizes shared place end out) where
+module _ (rule sizes : List ℕ) (shared : ℕ) (base place end : ℕ) (out : List ℕ) (g : Guarding rule sizes shared base place end out) where
   abbrev last : ℕ
   last = length rule - 1
 
   last-is : lastNode (tableIn rule) ≡ last
   last-is = ap (λ n. n - 1) (length-table formIn rule)
 
-  pub guard-few : (0 < length rule) × (length rule ≤ 32)
-  unfolding form32
+  pub guard-few : (0 < length rule) × (length rule ≤ 64)
+  unfolding form64
   guard-few = let r = rule-out formIn rule (g .sized .0) in (r .some-node, r .few-nodes)
 
   pub guard-size : getD sizes last 0 ≡ decideSize (tableIn rule) (lastNode (tableIn rule))
   guard-size = let f = guard-few in g .sized .1 last (omega arith) ∙ ap (decideSize (tableIn rule)) (sym last-is)
 
-  pub guard-last : Deciding rule sizes shared false last place (place + getD sizes last 0) end out
+  pub guard-last : Deciding rule sizes shared false last base place (place + getD sizes last 0) end out
   guard-last =
       let f = guard-few in
       let s = g .inScript in
@@ -172,15 +173,13 @@ module _ (rule sizes : List ℕ) (shared : ℕ) (place end : ℕ) (out : List �
         trueLine = omega (arith, guard-size);
         falseLine = g .endLine;
         inScript = omega arith;
+        fromBase = g .fromBase;
         inOutput = omega arith;
       }
 
-  pub guard-lengths : (F : Facts) → (length (decide (tableIn rule) last place (place + getD sizes last 0) end F) ≡ getD sizes last 0)
-      × (length (presentLines (tableIn rule) F) ≡ 1 + count isPast (tableIn rule))
-  guard-lengths F = (
-    length-decide (tableIn rule) (rule-out formIn rule (g .sized .0) .ordered) last _ _ _ _ ∙ ap (decideSize (tableIn rule)) (sym last-is) ∙ sym guard-size,
-    present-length (tableIn rule) F,
-  )
+  pub guard-length : (F : Facts) → length (decide (tableIn rule) last place (place + getD sizes last 0) end F) ≡ getD sizes last 0
+  guard-length F =
+      length-decide (tableIn rule) (rule-out formIn rule (g .sized .0) .ordered) last _ _ _ _ ∙ ap (decideSize (tableIn rule)) (sym last-is) ∙ sym guard-size
 
   pub guard-code : (F : Facts) → decide (tableIn rule) last place (place + getD sizes last 0) end F ++ presentLines (tableIn rule) F ≡ guardLines (tableIn rule) place end F
   unfolding guardLines
@@ -210,11 +209,11 @@ module _ (rule sizes : List ℕ) (shared : ℕ) (place : ℕ) (out : List ℕ) (
   block-few = let s = b .inScript in omega (arith, block-parts)
 
   pub block-room : 8 * updatesSize (length rule) t ≤ length out
-  block-room = block-updatable .inOutput
+  block-room = let o = b .inOutput in omega (arith, block-parts)
 
-  pub block-guarding : (n size : ℕ) (p : List ℕ) → n ≡ updatesSize (length rule) t → size ≡ blockSize t → length p ≡ length out - 8 * n
-      → Guarding rule sizes shared (place + n) (place + size) p
-  block-guarding n size p en es e =
+  pub block-guarding : (n size : ℕ) (after : List ℕ) → n ≡ updatesSize (length rule) t → size ≡ blockSize t → length after ≡ length out
+      → Guarding rule sizes shared place (place + n) (place + size) after
+  block-guarding n size after en es e =
       let s = b .inScript in
       let o = b .inOutput in
       record {
@@ -222,20 +221,12 @@ module _ (rule sizes : List ℕ) (shared : ℕ) (place : ℕ) (out : List ℕ) (
         sharedIs = b .sharedIs;
         endLine = omega arith;
         inScript = omega (arith, block-parts);
+        fromBase = omega arith;
         inOutput = omega (arith, block-parts);
       }
 
-  pub guard-length : (p end : ℕ) (F : Facts) → length (guardLines t p end F) ≡ decideSize t (lastNode t) + (1 + count isPast t)
-  unfolding guardLines
-  guard-length p end F =
-      length-append (decide t (lastNode t) p (p + decideSize t (lastNode t)) end F) (presentLines t F)
-      ∙ ap₂ _+_ (length-decide t ordered (lastNode t) _ _ _ _) (present-length t F)
-
   pub updates-length : length (updates (length rule) t place) ≡ updatesSize (length rule) t
   updates-length = length-updates t ordered (length rule) place
-
-  pub block-fits : 8 * (updatesSize (length rule) t + (decideSize t (lastNode t) + (1 + count isPast t))) ≤ length out
-  block-fits = let o = b .inOutput in omega (arith, block-parts)
 
   pub block-code : (n size : ℕ) (F : Facts) → n ≡ updatesSize (length rule) t → size ≡ blockSize t → F ≡ doneFacts t (length t)
       → updates (length rule) t place ++ guardLines t (place + n) (place + size) F ≡ block t place

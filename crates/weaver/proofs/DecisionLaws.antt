@@ -5,6 +5,7 @@
 --     by-work-size, by-work-code           a mention of a shared node is decided by its work bit
 --     by-kind-size, by-kind-code           any other node, and a shared node in its own code, by what it is
 --     work-room, work-code                 so much output that takes, and so it is written
+--     Completes                            what is still to be written, and then all is
 --     Implied, implied                     an implies node: its operands can be decided where it can, and their code is the node's
 --     simple-room, simple-code             any other node
 -- Assumes nothing.
@@ -17,10 +18,9 @@ use native.Mathlib.Omega.{arith}
 use lib.Dec.{ltb}
 use lib.ListN.{length, getD}
 use Rattle.spec.specs.Questions.{all}
-use Rattle.spec.specs.Rule.{form32, Node, falseNode, testNode, impliesNode, sinceNode, weakPreviousNode, Table, nodeAt, operands, isShared}
+use Rattle.spec.specs.Rule.{form64, Node, falseNode, testNode, impliesNode, sinceNode, weakPreviousNode, Table, nodeAt, operands, isShared}
 use Rattle.spec.specs.Script.{ifWork, branch, goto, wordFor, mostLines}
 use Rattle.spec.specs.Facts.{valueIs, Facts, _∪_, one}
-use Rattle.spec.specs.Check.{lineLength}
 use Rattle.spec.specs.Weaver.{sizeFrom, decideSize, leaf, decideFrom, decide}
 use Rattle.spec.proofs.BoolLaws.{clash, decided}
 use Rattle.spec.proofs.RuleLaws.{InOrder, by-lower, both-lower, rule-out}
@@ -28,8 +28,10 @@ use Rattle.spec.proofs.WeaverLaws.{size-shared, size-own, by-mention}
 use Rattle.sets.specs.Sets.{setOf}
 use Rattle.weaver.specs.Parts.{deciding, decidingSize}
 use Rattle.weaver.specs.Laid.{Deciding}
-use Rattle.facts.specs.Written.{storedLine, over, written}
-use Rattle.rule.specs.Nodes.{tableIn, isImplies, formIn}
+use Rattle.rule.specs.Nodes.{tableIn, isImplies, formIn, Put}
+use Rattle.rule.proofs.PutLaws.{put-as}
+use Rattle.facts.specs.Written.{storedLine, Space, Written}
+use Rattle.facts.proofs.OverLaws.{written-as}
 use Rattle.weaver.proofs.SimpleLaws.{leaf-words}
 
 -- the measure falls
@@ -89,27 +91,35 @@ leaf-size size (impliesNode l r) k other = clash refl other
 leaf-size size (sinceNode l r) k other = refl
 leaf-size size (weakPreviousNode l) k other = refl
 
+-- node k is to be decided at `place`: what decides node j `here`, written now, completes its code
+abbrev pub Completes : (isWide : Bool) → Table → (base onTrue onFalse : ℕ) → (own : Bool) → (k place : ℕ) → Facts → (narrow₀ wide₀ : List ℕ)
+    → (byKind : Bool) → (j here : ℕ) → Facts → (narrow wide : List ℕ) → Type 0
+Completes isWide t base onTrue onFalse own k place F narrow₀ wide₀ byKind j here G narrow wide =
+    (n w : List ℕ) → Written isWide (here - base) (deciding byKind t j here onTrue onFalse G) narrow wide n w
+    → Written isWide (place - base) (deciding own t k place onTrue onFalse F) narrow₀ wide₀ n w
+
 -- what is known of an implies node with the operands l and r, where it can be decided by what it is
-pub record Implied (rule sizes : List ℕ) (shared : ℕ) (own : Bool) (k l r place onTrue onFalse : ℕ) (out : List ℕ) : Type 0 where
+pub record Implied (rule sizes : List ℕ) (shared : ℕ) (own : Bool) (k l r base place onTrue onFalse : ℕ) (out : List ℕ) : Type 0 where
   pub lower : (l < k) × (r < k)
   pub operand : l < 64
   pub ordered : InOrder (tableIn rule)
   pub size : getD sizes l 0 ≡ decideSize (tableIn rule) l
-  -- where the code for right starts, in the script and in the output, which has space for it
+  -- the code for right starts inside the script and the output
   pub inside : place + getD sizes l 0 < mostLines
-  pub room : lineLength * (getD sizes l 0 + decideSize (tableIn rule) r) ≤ length out
+  pub room : 8 * (place + getD sizes l 0 - base) ≤ length out
+  pub next : place + getD sizes l 0 - base ≡ place - base + getD sizes l 0
   -- its operands can be decided where it can
-  pub left : Deciding rule sizes shared false l place (place + getD sizes l 0) onTrue out
-  pub right : (part : List ℕ) → length part ≡ length out - lineLength * getD sizes l 0
-      → Deciding rule sizes shared false r (place + getD sizes l 0) onTrue onFalse part
+  pub left : Deciding rule sizes shared false l base place (place + getD sizes l 0) onTrue out
+  pub right : (after : List ℕ) → length after ≡ length out
+      → Deciding rule sizes shared false r base (place + getD sizes l 0) onTrue onFalse after
   -- and their code, one after the other, is the node's
   pub code : (F : Facts)
       → decide (tableIn rule) l place (place + getD sizes l 0) onTrue F
       ++ decide (tableIn rule) r (place + getD sizes l 0) onTrue onFalse (F ∪ one (valueIs true) l)
       ≡ deciding own (tableIn rule) k place onTrue onFalse F
 
-module _ (rule sizes : List ℕ) (shared : ℕ) (own : Bool) (k place onTrue onFalse : ℕ) (out : List ℕ)
-    (d : Deciding rule sizes shared own k place onTrue onFalse out) where
+module _ (rule sizes : List ℕ) (shared : ℕ) (own : Bool) (k base place onTrue onFalse : ℕ) (out : List ℕ)
+    (d : Deciding rule sizes shared own k base place onTrue onFalse out) where
   abbrev t : Table
   t = tableIn rule
 
@@ -118,22 +128,23 @@ module _ (rule sizes : List ℕ) (shared : ℕ) (own : Bool) (k place onTrue onF
 
   -- the node's number is small
   pub few : k < 64
-  unfolding form32
+  unfolding form64
   few = let a = rule-out formIn rule (d .sized .0) .few-nodes in let i = d .isNode in omega arith
 
   asked : (b : Bool) → (setOf shared k && not own) ≡ b → (isShared t k && not own) ≡ b
   asked b e = asked-as (setOf shared k) (isShared t k) own b (ap (λ s. s k) (d .sharedIs)) e
 
   module _ (a : (setOf shared k && not own) ≡ true) where
-    pub work-room : 16 ≤ length out
+    pub work-room : Space (place - base) 2 out
     work-room = let o = d .inOutput in omega (arith, by-work-size t order k own (asked true a))
 
-    pub work-code : (after : List ℕ) (F : Facts) (word : ℕ) → word ≡ wordFor (branch (ifWork k) onTrue)
-        → after ≡ over (storedLine word F ++ storedLine (wordFor (goto onFalse)) (F ∪ one (valueIs false) k)) out
-        → after ≡ written (deciding own t k place onTrue onFalse F) out
-    work-code after F word ew e =
-        e ∙ ap (λ ws. over ws out) (leaf-words word k place onTrue onFalse (ifWork k) F ew)
-        ∙ ap (λ ls. written ls out) (by-work-code t order k own place onTrue onFalse F (asked true a))
+    pub work-code : (b : Bool) (n w n′ w′ : List ℕ) (F : Facts) (v : ℕ) → v ≡ wordFor (branch (ifWork k) onTrue)
+        → Put b (8 * (place - base)) (storedLine b v F ++ storedLine b (wordFor (goto onFalse)) (F ∪ one (valueIs false) k)) n w n′ w′
+        → Written b (place - base) (deciding own t k place onTrue onFalse F) n w n′ w′
+    work-code b n w n′ w′ F v ev h =
+        written-as b (place - base) (leaf (ifWork k) k place onTrue onFalse F) (deciding own t k place onTrue onFalse F) n w n′ w′
+        (by-work-code t order k own place onTrue onFalse F (asked true a))
+        (put-as b (8 * (place - base)) _ _ n w n′ w′ (leaf-words b v k place onTrue onFalse (ifWork k) F ev) h)
 
   module _ (a : (setOf shared k && not own) ≡ false) where
     module _ (l r : ℕ) (is-implies : nodeAt t k ≡ impliesNode l r) where
@@ -150,7 +161,7 @@ module _ (rule sizes : List ℕ) (shared : ℕ) (own : Bool) (k place onTrue onF
       whole =
           by-kind-size t order k own (asked false a) ∙ ap (λ x. sizeFrom (decideSize t) x k) is-implies ∙ ap (λ m. m + decideSize t r) (sym left-size)
 
-      pub implied : Implied rule sizes shared own k l r place onTrue onFalse out
+      pub implied : Implied rule sizes shared own k l r base place onTrue onFalse out
       unfolding decideFrom
       implied =
           let b = lower in
@@ -158,6 +169,7 @@ module _ (rule sizes : List ℕ) (shared : ℕ) (own : Bool) (k place onTrue onF
           let s = size-some t order r in
           let p = d .inScript in
           let o = d .inOutput in
+          let f = d .fromBase in
           record {
             lower = b;
             operand = omega (arith, few);
@@ -165,6 +177,7 @@ module _ (rule sizes : List ℕ) (shared : ℕ) (own : Bool) (k place onTrue onF
             size = left-size;
             inside = omega (arith, whole);
             room = omega (arith, whole);
+            next = omega arith;
             left = record {
               sized = d .sized;
               sharedIs = d .sharedIs;
@@ -172,16 +185,18 @@ module _ (rule sizes : List ℕ) (shared : ℕ) (own : Bool) (k place onTrue onF
               trueLine = omega (arith, whole);
               falseLine = d .trueLine;
               inScript = omega (arith, whole, left-size);
+              fromBase = f;
               inOutput = omega (arith, whole, left-size);
             };
-            right = λ part f. record {
+            right = λ after same. record {
               sized = d .sized;
               sharedIs = d .sharedIs;
               isNode = omega arith;
               trueLine = d .trueLine;
               falseLine = d .falseLine;
               inScript = omega (arith, whole);
-              inOutput = omega (arith, whole, f);
+              fromBase = omega arith;
+              inOutput = omega (arith, whole, same);
             };
             code = λ F.
                 ap (λ m. decide t l place (place + m) onTrue F ++ decide t r (place + m) onTrue onFalse (F ∪ one (valueIs true) l)) left-size
@@ -190,11 +205,11 @@ module _ (rule sizes : List ℕ) (shared : ℕ) (own : Bool) (k place onTrue onF
           }
 
     module _ (x : Node) (is : nodeAt t k ≡ x) where
-      pub simple-room : isImplies x ≡ false → lineLength * sizeFrom (λ j. 0) x k ≤ length out
+      pub simple-room : isImplies x ≡ false → Space (place - base) (sizeFrom (λ j. 0) x k) out
       simple-room other =
           let e : decidingSize own t k ≡ sizeFrom (λ j. 0) x k =
           by-kind-size t order k own (asked false a) ∙ ap (λ y. sizeFrom (decideSize t) y k) is ∙ leaf-size (decideSize t) x k other in
-          subst (λ m. lineLength * m ≤ length out) e (d .inOutput)
+          subst (λ m. Space (place - base) m out) e (d .inOutput)
 
       pub simple-code : (F : Facts) → decideFrom t (decide t) x k place onTrue onFalse F ≡ deciding own t k place onTrue onFalse F
       simple-code F =

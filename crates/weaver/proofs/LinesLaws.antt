@@ -2,10 +2,10 @@
 --     weaveUpTo, weavingSeries            the woven lines of the first l bare lines
 --     up-to-length, up-to-all             how many there are; those of all bare lines are the woven script
 --     present-line, other-line            what a line becomes
---     woven-block, woven-few, woven-node  what the loop over the lines asks
+--     woven-block, woven-line, woven-start, woven-few, woven-room, woven-more, woven-size    what the loop over the lines asks
 -- Assumes nothing.
 use mathlib.Core.Path.{_≡_, refl, sym, ap, ap₂, _∙_}
-use mathlib.Core.Bool.{true, false, cond}
+use mathlib.Core.Bool.{Bool, true, false, cond}
 use mathlib.Core.List.{List, [], _∷_, _++_, append-assoc, append-nil}
 use Prim.Native.Nat.{ℕ, zero, suc, _+_, _-_, _*_, _≤_, _<_}
 use native.Mathlib.Omega.{arith}
@@ -19,7 +19,8 @@ use Rattle.spec.proofs.RuleLaws.{InOrder, rule-out}
 use Rattle.spec.proofs.WeaverLaws.{start-zero, start-next, length-weaveLine}
 use Rattle.layout.proofs.StartLaws.{code-at, length-bare, present-inside, woven-few as few}
 use Rattle.weaver.specs.Laid.{Blocking, Weaving}
-use Rattle.rule.specs.Nodes.{tableIn, formIn}
+use Rattle.rule.specs.Nodes.{tableIn, formIn, storedIn}
+use Rattle.facts.specs.Written.{Space}
 use Rattle.weaver.proofs.SeriesLaws.{Series, Filled, filled-room, filled-part}
 
 unfoldable pub weaveUpTo : Table → Code → ℕ → Lines
@@ -100,47 +101,50 @@ module _ (rule bare sizes starts : List ℕ) (size shared past : ℕ) (v : Weavi
   order = rule-out formIn rule (v .sized .0) .ordered
 
   pub woven-block : (l place : ℕ) (out : List ℕ) → l < length bare → place ≡ startOf table code l → isPresent (instructionAt code l) ≡ true
-      → 8 * lineSize table (instructionAt code l) ≤ length out → Blocking rule sizes shared place out
+      → Space 0 (lineSize table (instructionAt code l)) out → Blocking rule sizes shared place out
   woven-block l place out h e p room =
       let q : isPresent (instructionRead (getD bare l 0)) ≡ true = ap isPresent (sym (code-at bare l)) ∙ p in
       let i = present-inside rule bare (v .started .weavable) l h q in
       let z : blockSize table ≡ lineSize table (instructionAt code l) = present-line table code place (instructionAt code l) p .0 in
       record { sized = v .sized; sharedIs = v .sharedIs; inScript = omega arith; inOutput = omega arith }
 
-  pub woven-line : (l : ℕ) (out : List ℕ) → 8 * lineSize table (instructionAt code l) ≤ length out → isPresent (instructionAt code l) ≡ false → 8 ≤ length out
+  pub woven-line : (l : ℕ) (out : List ℕ) → Space 0 (lineSize table (instructionAt code l)) out → isPresent (instructionAt code l) ≡ false → Space 0 1 out
   woven-line l out room p =
       let z : 1 ≡ lineSize table (instructionAt code l) = other-line table code 0 (instructionAt code l) p .0 in omega arith
 
-  module _ (out₀ out : List ℕ) (n l : ℕ) (i : Filled (weavingSeries table code) out₀ out n l) (h : l ≤ length bare) (room : 8 * wovenCount table code ≤ length out₀) where
+  module _ (b : Bool) (n₀ w₀ n w : List ℕ) (c l : ℕ) (i : Filled (weavingSeries table code) b 0 n₀ w₀ n w c l) (h : l ≤ length bare)
+      (room : Space 0 (wovenCount table code) (storedIn b n₀ w₀)) where
     all-length : length (weaveUpTo table code (length bare)) ≡ wovenCount table code
     all-length =
         up-to-length table order code (length bare) (omega (arith, length-bare bare)) ∙ ap (startOf table code) (sym (length-bare bare))
 
-    pub all-room : 8 * length (weaveUpTo table code (length bare)) ≤ length out₀
+    pub all-room : 8 * (0 + length (weaveUpTo table code (length bare))) ≤ length (storedIn b n₀ w₀)
     all-room = omega (arith, all-length)
 
-    pub woven-start : n ≡ startOf table code l
+    pub woven-start : c ≡ startOf table code l
     woven-start = i .0 ∙ up-to-length table order code l (omega (arith, length-bare bare))
 
-    pub woven-few : (8 * n ≤ length out) × (n ≤ 1024) × (length out ≡ length out₀)
+    -- the lines written are few, and the output has them
+    pub woven-few : (c ≤ 1024) × (8 * c ≤ length (storedIn b n w))
     woven-few =
-        let r = filled-room (weavingSeries table code) out₀ out n l (length bare) i h all-room in
+        let r = filled-room (weavingSeries table code) b 0 n₀ w₀ n w c l (length bare) i h all-room in
         let f = few rule bare (v .started .weavable) in
-        (r .0, omega (arith, all-length), r .1)
+        (omega (arith, all-length), omega (arith, all-length))
 
     module _ (g : l < length bare) where
       line-length : length (weaveLine table code (startOf table code l) (instructionAt code l)) ≡ lineSize table (instructionAt code l)
       line-length = length-weaveLine table order code (startOf table code l) (instructionAt code l)
 
-      pub woven-room : (p : List ℕ) → length p ≡ length out - 8 * n → 8 * lineSize table (instructionAt code l) ≤ length p
-      woven-room p e =
-          let q = filled-part (weavingSeries table code) out₀ out n l (length bare) i h all-room g in omega (arith, line-length)
+      part-within : c + lineSize table (instructionAt code l) ≤ wovenCount table code
+      part-within =
+          let q = filled-part (weavingSeries table code) b 0 n₀ w₀ n w c l (length bare) i h all-room g in omega (arith, line-length, all-length)
 
-      pub woven-more : n + lineSize table (instructionAt code l) ≤ 1024
-      woven-more =
-          let q = filled-part (weavingSeries table code) out₀ out n l (length bare) i h all-room g in
-          let f = few rule bare (v .started .weavable) in
-          omega (arith, line-length, all-length)
+      -- the rest of the output has space for bare line l
+      pub woven-room : (out : List ℕ) → length out ≡ length (storedIn b n w) - 8 * c → Space 0 (lineSize table (instructionAt code l)) out
+      woven-room out e = let q = part-within in let s = i .1 .sameLength in omega arith
+
+      pub woven-more : c + lineSize table (instructionAt code l) ≤ 1024
+      woven-more = let q = part-within in let f = few rule bare (v .started .weavable) in omega arith
 
       pub woven-size : (m : ℕ) → m ≡ lineSize table (instructionAt code l) → m ≡ length (weaveLine table code (startOf table code l) (instructionAt code l))
       woven-size m e = e ∙ sym line-length

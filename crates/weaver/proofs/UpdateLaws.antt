@@ -1,9 +1,8 @@
 -- The code of a node with a work bit, part after part.
---     one-line, two-lines                        the words of a line, of two lines
 --     deciding-in, deciding-some                 what deciding asks
---     length-left, length-end                    sizes
+--     length-left                                how many lines precede a since node's setting
 --     end-few, end-size, end-left                the rest of a since node's code
---     since-space, weak-space, end-space, shared-space     the lines that a node's code takes: there is room for them
+--     since-space, weak-space, shared-space      the lines that a node's code takes: there is room for them
 --     since-right, since-end, since-size, since-code    a since node's code
 --     weak-left, weak-size, weak-code            a weak previous node's code
 --     no-code                                    other nodes have none
@@ -12,43 +11,31 @@
 -- Assumes nothing.
 use mathlib.Core.Path.{_≡_, refl, sym, ap, ap₂, _∙_}
 use mathlib.Core.Bool.{true, false}
-use mathlib.Core.List.{List, [], _∷_, _++_, append-assoc}
-use Prim.Native.Nat.{ℕ, _+_, _-_, _*_, _<_, _≤_}
+use mathlib.Core.List.{List, [], _++_, append-assoc}
+use Prim.Native.Nat.{ℕ, _+_, _-_, _<_, _≤_}
 use native.Mathlib.Omega.{arith}
-use lib.ListN.{length, getD, drop, length-drop, length-append}
+use lib.ListN.{length, getD}
 use lib.Dec.{ltb}
 use Rattle.spec.specs.Questions.{all}
-use Rattle.spec.specs.Rule.{form32, sinceNode, weakPreviousNode, Table, nodeAt, isShared, operands, isPast, Node, falseNode, testNode, impliesNode}
-use Rattle.spec.specs.Script.{Instruction, wordFor, mostLines}
-use Rattle.spec.specs.Check.{lineLength}
-use Rattle.spec.specs.Facts.{valueIs, priorIs, Facts, _∪_, one}
-use Rattle.spec.specs.Weaver.{line, sizeFrom, decideSize, decideFrom, decide, setting, update, updateSize, sharedSize, sharedCode, workSize, workCode}
+use Rattle.spec.specs.Rule.{form64, sinceNode, weakPreviousNode, Table, nodeAt, isShared, operands, isPast, Node, falseNode, testNode, impliesNode}
+use Rattle.spec.specs.Script.{mostLines}
+use Rattle.spec.specs.Facts.{priorIs, Facts, _∪_, one}
+use Rattle.spec.specs.Weaver.{sizeFrom, decideSize, decideFrom, decide, setting, update, updateSize, sharedSize, sharedCode, workSize, workCode}
 use Rattle.spec.proofs.RuleLaws.{InOrder, both-lower, one-lower, rule-out}
-use Rattle.spec.proofs.WeaverLaws.{length-decide, length-setting}
+use Rattle.spec.proofs.WeaverLaws.{length-decide}
 use Rattle.layout.proofs.SizeLaws.{nodes-few, own-at}
 use Rattle.weaver.specs.Parts.{leftLines, sinceEnd}
 use Rattle.weaver.specs.Laid.{Deciding, Updating, Working, Ending}
 use Rattle.rule.specs.Nodes.{formIn, nodeIn, tableIn}
 use Rattle.rule.proofs.NodeLaws.{node-at}
-use Rattle.facts.specs.Written.{storedLine, over, written}
-use Rattle.facts.proofs.OverLaws.{words-append, stored-line}
+use Rattle.facts.specs.Written.{Space}
 use Rattle.spec.proofs.BoolLaws.{clash}
 use Rattle.weaver.proofs.DecisionLaws.{size-some}
 
-pub one-line : (w : ℕ) (i : Instruction) (F G : Facts) (o : List ℕ) → w ≡ wordFor i → G ≡ F → over (storedLine w G) o ≡ written (line i F ∷ []) o
-one-line w i F G o e f = ap (λ H. over (storedLine w H) o) f ∙ ap (λ ws. over ws o) (stored-line w i F e)
-
-pub two-lines : (w v : ℕ) (i j : Instruction) (F G F′ G′ : Facts) (o : List ℕ) → w ≡ wordFor i → F′ ≡ F → v ≡ wordFor j → G′ ≡ G
-    → over (storedLine w F′ ++ storedLine v G′) o ≡ written (line i F ∷ line j G ∷ []) o
-two-lines w v i j F G F′ G′ o ew eF ev eG =
-    ap (λ ws. over ws o)
-    (ap₂ _++_ (ap (storedLine w) eF ∙ stored-line w i F ew) (ap (storedLine v) eG ∙ stored-line v j G ev)
-    ∙ sym (words-append (line i F ∷ []) (line j G ∷ [])))
-
 -- a node can be decided into any output of the same length, and its code has a line
-pub deciding-in : (rule sizes : List ℕ) (shared : ℕ) (k place onTrue onFalse : ℕ) (out part : List ℕ) → length part ≡ length out
-    → Deciding rule sizes shared false k place onTrue onFalse out → Deciding rule sizes shared false k place onTrue onFalse part
-deciding-in rule sizes shared k place onTrue onFalse out part e d =
+pub deciding-in : (rule sizes : List ℕ) (shared : ℕ) (k base place onTrue onFalse : ℕ) (out after : List ℕ) → length after ≡ length out
+    → Deciding rule sizes shared false k base place onTrue onFalse out → Deciding rule sizes shared false k base place onTrue onFalse after
+deciding-in rule sizes shared k base place onTrue onFalse out after e d =
     let o = d .inOutput in
     record {
       sized = d .sized;
@@ -57,36 +44,30 @@ deciding-in rule sizes shared k place onTrue onFalse out part e d =
       trueLine = d .trueLine;
       falseLine = d .falseLine;
       inScript = d .inScript;
+      fromBase = d .fromBase;
       inOutput = omega arith;
     }
 
-pub deciding-some : (rule sizes : List ℕ) (shared : ℕ) (k place onTrue onFalse : ℕ) (out : List ℕ) → Deciding rule sizes shared false k place onTrue onFalse out
+pub deciding-some : (rule sizes : List ℕ) (shared : ℕ) (k base place onTrue onFalse : ℕ) (out : List ℕ) → Deciding rule sizes shared false k base place onTrue onFalse out
     → 0 < decideSize (tableIn rule) k
-deciding-some rule sizes shared k place onTrue onFalse out d = size-some (tableIn rule) (rule-out formIn rule (d .sized .0) .ordered) k
+deciding-some rule sizes shared k base place onTrue onFalse out d = size-some (tableIn rule) (rule-out formIn rule (d .sized .0) .ordered) k
 
 pub length-left : (t : Table) → InOrder t → (k left place set : ℕ) (F : Facts) → length (leftLines t k left place set F) ≡ 2 + decideSize t left
 unfolding leftLines
 length-left t o k left place set F = omega (arith, length-decide t o left (place + 2) set (set + 2) (F ∪ one (priorIs true) k))
 
-pub length-end : (t : Table) → InOrder t → (k left right place : ℕ) (F : Facts) → length (sinceEnd t k left right place F) ≡ 2 + decideSize t left + 3
-unfolding sinceEnd
-length-end t o k left right place F =
-    let set = place + 2 + decideSize t left in
-    length-append (leftLines t k left place set (F ∪ one (valueIs false) right)) (setting k k set F)
-    ∙ ap₂ _+_ (length-left t o k left place set (F ∪ one (valueIs false) right)) (length-setting k k set F)
-
--- n lines of node k's code: there are at most 64 nodes, another line of the script stands after them, and the output has room
-abbrev Space : (k n place : ℕ) (out : List ℕ) → Type 0
-Space k n place out = (k < 64) × (place + n < mostLines) × (lineLength * n ≤ length out)
+-- n lines of node k's code: there are at most 64 nodes, another line of the script stands after them, and the output has space
+abbrev Room : (k n base place : ℕ) (out : List ℕ) → Type 0
+Room k n base place out = (k < 64) × (place + n < mostLines) × (base ≤ place) × Space (place - base) n out
 
 -- ---- the rest of a since node's code
 
-module _ (rule sizes : List ℕ) (shared : ℕ) (k : ℕ) {l r : ℕ} (place : ℕ) (out : List ℕ) (u : Ending rule sizes shared k l r place out) where
+module _ (rule sizes : List ℕ) (shared : ℕ) (k : ℕ) {l r : ℕ} (base place : ℕ) (out : List ℕ) (u : Ending rule sizes shared k l r base place out) where
   abbrev n : ℕ
   n = getD sizes l 0
 
   pub end-few : (k < 64) × (l < 64) × (r < 64)
-  unfolding form32
+  unfolding form64
   end-few =
       let a = rule-out formIn rule (u .sized .0) .few-nodes in
       let i = u .isNode in
@@ -96,19 +77,13 @@ module _ (rule sizes : List ℕ) (shared : ℕ) (k : ℕ) {l r : ℕ} (place : �
   pub end-size : n ≡ decideSize (tableIn rule) l
   end-size = let b = u .lower .0 in let i = u .isNode in u .sized .1 l (omega arith)
 
-  pub end-space : (l < k) × (r < k) × Space k (2 + n + 3) place out
-  end-space =
-      let a = u .inScript in
-      let o = u .inOutput in
-      (u .lower .0, u .lower .1, (end-few .0, omega (arith, end-size), omega (arith, end-size)))
-
-  pub end-left : Deciding rule sizes shared false l (place + 2) (place + 2 + n) (place + 2 + n + 2) (drop 16 out)
+  pub end-left : Deciding rule sizes shared false l base (place + 2) (place + 2 + n) (place + 2 + n + 2) out
   end-left =
       let b = u .lower .0 in
       let i = u .isNode in
       let a = u .inScript in
       let o = u .inOutput in
-      let d = length-drop 16 out in
+      let f = u .fromBase in
       record {
         sized = u .sized;
         sharedIs = u .sharedIs;
@@ -116,12 +91,13 @@ module _ (rule sizes : List ℕ) (shared : ℕ) (k : ℕ) {l r : ℕ} (place : �
         trueLine = omega (arith, end-size);
         falseLine = omega (arith, end-size);
         inScript = omega (arith, end-size);
+        fromBase = omega arith;
         inOutput = omega (arith, end-size);
       }
 
 -- ---- a since node's code
 
-module _ (rule sizes : List ℕ) (shared : ℕ) (k place : ℕ) (out : List ℕ) (u : Updating rule sizes shared k place out) where
+module _ (rule sizes : List ℕ) (shared : ℕ) (k base place : ℕ) (out : List ℕ) (u : Updating rule sizes shared k base place out) where
   abbrev t : Table
   t = tableIn rule
 
@@ -129,7 +105,7 @@ module _ (rule sizes : List ℕ) (shared : ℕ) (k place : ℕ) (out : List ℕ)
   order = rule-out formIn rule (u .sized .0) .ordered
 
   pub node-few : k < 64
-  unfolding form32
+  unfolding form64
   node-few = let a = rule-out formIn rule (u .sized .0) .few-nodes in let i = u .isNode in omega arith
 
   size-at : (j : ℕ) → j < k → getD sizes j 0 ≡ decideSize t j
@@ -149,13 +125,13 @@ module _ (rule sizes : List ℕ) (shared : ℕ) (k place : ℕ) (out : List ℕ)
     unfolding updateSize
     since-size = ap₂ (λ a b. a + 2 + b + 3) right-size left-size ∙ ap (updateSize t) (sym is-since)
 
-    pub since-space : (left < k) × (right < k) × Space k (getD sizes right 0 + 2 + getD sizes left 0 + 3) place out
+    pub since-space : (left < k) × (right < k) × Room k (getD sizes right 0 + 2 + getD sizes left 0 + 3) base place out
     since-space =
         let a = u .inScript in
         let o = u .inOutput in
-        (since-lower .0, since-lower .1, (node-few, omega (arith, since-size), omega (arith, since-size)))
+        (since-lower .0, since-lower .1, (node-few, omega (arith, since-size), u .fromBase, omega (arith, since-size)))
 
-    pub since-right : Deciding rule sizes shared false right place (place + getD sizes right 0 + 2 + getD sizes left 0) (place + getD sizes right 0) out
+    pub since-right : Deciding rule sizes shared false right base place (place + getD sizes right 0 + 2 + getD sizes left 0) (place + getD sizes right 0) out
     since-right =
         let b = since-lower .1 in
         let i = u .isNode in
@@ -168,12 +144,13 @@ module _ (rule sizes : List ℕ) (shared : ℕ) (k place : ℕ) (out : List ℕ)
           trueLine = omega (arith, since-size);
           falseLine = omega (arith, since-size);
           inScript = omega (arith, since-size, right-size);
+          fromBase = u .fromBase;
           inOutput = omega (arith, since-size, right-size);
         }
 
-    pub since-end : (part : List ℕ) → length part ≡ length out - 8 * getD sizes right 0 → Ending rule sizes shared k left right (place + getD sizes right 0) part
-    since-end part p =
-        let i = u .isNode in
+    pub since-end : (after : List ℕ) → length after ≡ length out → Ending rule sizes shared k left right base (place + getD sizes right 0) after
+    since-end after same =
+        let f = u .fromBase in
         let a = u .inScript in
         let o = u .inOutput in
         record {
@@ -182,7 +159,8 @@ module _ (rule sizes : List ℕ) (shared : ℕ) (k place : ℕ) (out : List ℕ)
           isNode = u .isNode;
           lower = since-lower;
           inScript = omega (arith, since-size, left-size);
-          inOutput = omega (arith, since-size, left-size, p);
+          fromBase = omega arith;
+          inOutput = omega (arith, since-size, left-size, same);
         }
 
     pub since-code : (F : Facts)
@@ -205,13 +183,13 @@ module _ (rule sizes : List ℕ) (shared : ℕ) (k place : ℕ) (out : List ℕ)
     unfolding updateSize
     weak-size = ap (λ a. a + 3) weak-left-size ∙ ap (updateSize t) (sym is-weak)
 
-    pub weak-space : (left < k) × Space k (getD sizes left 0 + 3) place out
+    pub weak-space : (left < k) × Room k (getD sizes left 0 + 3) base place out
     weak-space =
         let a = u .inScript in
         let o = u .inOutput in
-        (weak-lower, (node-few, omega (arith, weak-size), omega (arith, weak-size)))
+        (weak-lower, (node-few, omega (arith, weak-size), u .fromBase, omega (arith, weak-size)))
 
-    pub weak-left : Deciding rule sizes shared false left place (place + getD sizes left 0) (place + getD sizes left 0 + 2) out
+    pub weak-left : Deciding rule sizes shared false left base place (place + getD sizes left 0) (place + getD sizes left 0 + 2) out
     weak-left =
         let b = weak-lower in
         let i = u .isNode in
@@ -224,6 +202,7 @@ module _ (rule sizes : List ℕ) (shared : ℕ) (k place : ℕ) (out : List ℕ)
           trueLine = omega (arith, weak-size);
           falseLine = omega (arith, weak-size);
           inScript = omega (arith, weak-size, weak-left-size);
+          fromBase = u .fromBase;
           inOutput = omega (arith, weak-size, weak-left-size);
         }
 
@@ -247,7 +226,7 @@ no-code t (weakPreviousNode l) k place F e = clash refl e
 
 -- ---- any node
 
-module _ (rule sizes : List ℕ) (shared : ℕ) (k place : ℕ) (out : List ℕ) (u : Working rule sizes shared k place out) where
+module _ (rule sizes : List ℕ) (shared : ℕ) (k base place : ℕ) (out : List ℕ) (u : Working rule sizes shared k base place out) where
   abbrev table : Table
   table = tableIn rule
 
@@ -262,14 +241,14 @@ module _ (rule sizes : List ℕ) (shared : ℕ) (k place : ℕ) (out : List ℕ)
     unfolding workSize sharedSize
     shared-size = rw s (omega (arith, own-is))
 
-    pub shared-space : Space k (n + 3) place out
+    pub shared-space : Room k (n + 3) base place out
     shared-space =
         let a = u .inScript in
         let o = u .inOutput in
         let i = u .isNode in
-        (omega (arith, nodes-few rule (u .sized .0)), omega (arith, shared-size), omega (arith, shared-size))
+        (omega (arith, nodes-few rule (u .sized .0)), omega (arith, shared-size), u .fromBase, omega (arith, shared-size))
 
-    pub shared-own : Deciding rule sizes shared true k place (place + n) (place + n + 2) out
+    pub shared-own : Deciding rule sizes shared true k base place (place + n) (place + n + 2) out
     shared-own =
         let a = u .inScript in
         let o = u .inOutput in
@@ -280,6 +259,7 @@ module _ (rule sizes : List ℕ) (shared : ℕ) (k place : ℕ) (out : List ℕ)
           trueLine = omega (arith, shared-size);
           falseLine = omega (arith, shared-size);
           inScript = omega (arith, shared-size, own-is);
+          fromBase = u .fromBase;
           inOutput = omega (arith, shared-size, own-is);
         }
 
@@ -297,7 +277,7 @@ module _ (rule sizes : List ℕ) (shared : ℕ) (k place : ℕ) (out : List ℕ)
     unfolding workCode
     past-code F = rw s
 
-    pub past-updating : Updating rule sizes shared k place out
+    pub past-updating : Updating rule sizes shared k base place out
     past-updating =
         let a = u .inScript in
         let o = u .inOutput in
@@ -306,5 +286,6 @@ module _ (rule sizes : List ℕ) (shared : ℕ) (k place : ℕ) (out : List ℕ)
           sharedIs = u .sharedIs;
           isNode = u .isNode;
           inScript = omega (arith, past-size);
+          fromBase = u .fromBase;
           inOutput = omega (arith, past-size);
         }

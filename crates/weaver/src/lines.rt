@@ -7,18 +7,19 @@ use layout::moved_word;
 use script::instruction::decode;
 use script::line::is_present;
 ghost use mathlib.Core.Path.{_≡_};
+ghost use mathlib.Core.Bool.{cond};
 ghost use Prim.Native.Nat.{_*_, _≤_, _<_};
 ghost use lib.ListN.{length};
 ghost use Rattle.spec.specs.Script.{bareCode, instructionAt};
 ghost use Rattle.spec.specs.Weaver as spec;
 ghost use Rattle.spec.specs.Weaver.{lineSize, startOf, weaveLine, wovenCount};
-ghost use Rattle.rule.specs.Nodes.{tableIn};
-ghost use Rattle.facts.specs.Written.{written};
+ghost use Rattle.rule.specs.Nodes.{tableIn, storedIn};
+ghost use Rattle.facts.specs.Written.{Space, Written};
 ghost use Rattle.weaver.specs.Laid.{Laying, Weaving};
 
-// Bare line l, which starts at `place`. Hands back how many lines it becomes.
+// Bare line l, which starts at `place`, into the start of the output. Hands back how many lines it becomes.
 fn put_woven(
-    rule: &[u32],
+    rule: &[u64],
     bare: &[u32],
     sizes: &[u16; 64],
     starts: &[u16; 64],
@@ -27,43 +28,64 @@ fn put_woven(
     past: u64,
     l: usize,
     place: usize,
-    out: &mut [u32],
+    narrow: &mut [u32],
+    wide: &mut [u64],
+    is_wide: bool,
 ) -> usize
     requires { ⌜ Weaving (now rule) (now bare) (now sizes) (now starts) size shared past × (l < length (now bare)) × (place ≡ startOf (tableIn (now rule)) (bareCode (now bare)) l)
-        × (8 * lineSize (tableIn (now rule)) (instructionAt (bareCode (now bare)) l) ≤ length (now out)) ⌝ }
+        × Space 0 (lineSize (tableIn (now rule)) (instructionAt (bareCode (now bare)) l)) (storedIn «is_wide» (now narrow) (now wide)) ⌝ }
     ensures { λ r. ⌜ (r ≡ lineSize (tableIn (now (rule .entry))) (instructionAt (bareCode (now (bare .entry))) l))
-        × (now (out .exit) ≡ written (weaveLine (tableIn (now (rule .entry))) (bareCode (now (bare .entry))) place (instructionAt (bareCode (now (bare .entry))) l)) (now (out .entry))) ⌝ }
+        × Written «is_wide» 0 (weaveLine (tableIn (now (rule .entry))) (bareCode (now (bare .entry))) place (instructionAt (bareCode (now (bare .entry))) l)) (now (narrow .entry)) (now (wide .entry)) (now (narrow .exit)) (now (wide .exit)) ⌝ }
 {
     if is_present(decode(bare[l])) {
-        put_block(rule, sizes, shared, past, size, place, out);
+        put_block(
+            rule,
+            sizes,
+            shared,
+            past,
+            size,
+            place,
+            narrow,
+            wide,
+            is_wide,
+        );
         size
     } else {
-        put_line(
-            moved_word(rule, bare, starts, size, l),
-            noted(past, 0, 0),
-            out,
-        );
+        let word = moved_word(rule, bare, starts, size, l);
+        put_line(word, noted(past, 0, 0), 0, narrow, wide, is_wide);
         1
     }
 }
 
+// How many words n lines have in an output that they are in; in the other one they have none.
+fn words_in(n: usize, is_in: bool) -> usize
+    requires { ⌜ n ≤ 1024 ⌝ }
+    ensures { λ r. ⌜ r ≡ cond «is_in» (8 * n) 0 ⌝ }
+{
+    if is_in { 8 * n } else { 0 }
+}
+
 // Every bare line, each into the part of the output after the lines already written.
 fn put_lines(
-    rule: &[u32],
+    rule: &[u64],
     bare: &[u32],
     sizes: &[u16; 64],
     starts: &[u16; 64],
     size: usize,
     shared: u64,
     past: u64,
-    out: &mut [u32],
+    narrow: &mut [u32],
+    wide: &mut [u64],
+    is_wide: bool,
 )
-    requires { ⌜ Weaving (now rule) (now bare) (now sizes) (now starts) size shared past × (8 * wovenCount (tableIn (now rule)) (bareCode (now bare)) ≤ length (now out)) ⌝ }
-    ensures { λ r. ⌜ now (out .exit) ≡ written (spec.weave (tableIn (now (rule .entry))) (bareCode (now (bare .entry)))) (now (out .entry)) ⌝ }
+    requires { ⌜ Weaving (now rule) (now bare) (now sizes) (now starts) size shared past × Space 0 (wovenCount (tableIn (now rule)) (bareCode (now bare))) (storedIn «is_wide» (now narrow) (now wide)) ⌝ }
+    ensures { λ r. ⌜ Written «is_wide» 0 (spec.weave (tableIn (now (rule .entry))) (bareCode (now (bare .entry)))) (now (narrow .entry)) (now (wide .entry)) (now (narrow .exit)) (now (wide .exit)) ⌝ }
 {
     let mut n = 0;
     let mut l = 0;
     while l < bare.len() {
+        let i = words_in(n, !is_wide);
+        let j = words_in(n, is_wide);
         n += put_woven(
             rule,
             bare,
@@ -74,7 +96,9 @@ fn put_lines(
             past,
             l,
             n,
-            &mut out[8 * n..],
+            &mut narrow[i..],
+            &mut wide[j..],
+            is_wide,
         );
         l += 1;
     }
@@ -82,18 +106,31 @@ fn put_lines(
 
 // The whole script; a block has `size` lines.
 pub(crate) fn put_script(
-    rule: &[u32],
+    rule: &[u64],
     bare: &[u32],
     sizes: &[u16; 64],
     size: usize,
     shared: u64,
     past: u64,
-    out: &mut [u32],
+    narrow: &mut [u32],
+    wide: &mut [u64],
+    is_wide: bool,
 )
-    requires { ⌜ Laying (now rule) (now bare) (now sizes) size shared past × (8 * wovenCount (tableIn (now rule)) (bareCode (now bare)) ≤ length (now out)) ⌝ }
-    ensures { λ r. ⌜ now (out .exit) ≡ written (spec.weave (tableIn (now (rule .entry))) (bareCode (now (bare .entry)))) (now (out .entry)) ⌝ }
+    requires { ⌜ Laying (now rule) (now bare) (now sizes) size shared past × Space 0 (wovenCount (tableIn (now rule)) (bareCode (now bare))) (storedIn «is_wide» (now narrow) (now wide)) ⌝ }
+    ensures { λ r. ⌜ Written «is_wide» 0 (spec.weave (tableIn (now (rule .entry))) (bareCode (now (bare .entry)))) (now (narrow .entry)) (now (wide .entry)) (now (narrow .exit)) (now (wide .exit)) ⌝ }
 {
     let mut starts = [0u16; 64];
     mark_starts(rule, bare, size, &mut starts);
-    put_lines(rule, bare, sizes, &starts, size, shared, past, out);
+    put_lines(
+        rule,
+        bare,
+        sizes,
+        &starts,
+        size,
+        shared,
+        past,
+        narrow,
+        wide,
+        is_wide,
+    );
 }

@@ -13,7 +13,7 @@ use Rattle.layout.proofs.block_size.Statement.{statement}
 use Rattle.layout.proofs.block_size.Tie as tie
 
 abbrev Inv-loop : tie.InvT-loop
-Inv-loop rule sizes shared lines₀ k₀ lines k = (k ≤ length rule) × (length rule ≤ 32) × (lines ≡ countedTo (tableIn rule) k)
+Inv-loop rule sizes shared lines₀ k₀ lines k = (k ≤ length rule) × (length rule ≤ 64) × (lines ≡ countedTo (tableIn rule) k)
 
 abbrev μ-loop : tie.MeasureT-loop
 μ-loop rule sizes shared lines₀ k₀ lines k = length rule - k
@@ -65,7 +65,7 @@ cast-result c = let s = c .before .before .before .before in
     let rule = s .args .rule .now in
     let l = c .before .before .loop in
     let e = rule-out formIn rule (s .pre .0 .0) .some-node in
-    let size : getD (s .args .sizes .now) (length rule - 1) 0 ≤ 481 =
+    let size : getD (s .args .sizes .now) (length rule - 1) 0 ≤ 961 =
     omega (arith, s .pre .0 .1 (length rule - 1) (omega arith), node-few rule (s .pre .0 .0) (length rule - 1) (omega arith)) in
     omega arith
 
@@ -74,7 +74,7 @@ add-result c = let s = c .before .before .before .before in
     let rule = s .args .rule .now in
     let l = c .before .before .loop in
     let e = rule-out formIn rule (s .pre .0 .0) .some-node in
-    let size : getD (s .args .sizes .now) (length rule - 1) 0 ≤ 481 =
+    let size : getD (s .args .sizes .now) (length rule - 1) 0 ≤ 961 =
     omega (arith, s .pre .0 .1 (length rule - 1) (omega arith), node-few rule (s .pre .0 .0) (length rule - 1) (omega arith)) in
     let few = counted-few rule (s .pre .0 .0) (l .k) (l .inv .0) in
     omega arith
@@ -84,7 +84,7 @@ add-result-2 c = let s = c .before .before .before .before in
     let rule = s .args .rule .now in
     let l = c .before .before .loop in
     let e = rule-out formIn rule (s .pre .0 .0) .some-node in
-    let size : getD (s .args .sizes .now) (length rule - 1) 0 ≤ 481 =
+    let size : getD (s .args .sizes .now) (length rule - 1) 0 ≤ 961 =
     omega (arith, s .pre .0 .1 (length rule - 1) (omega arith), node-few rule (s .pre .0 .0) (length rule - 1) (omega arith)) in
     let few = counted-few rule (s .pre .0 .0) (l .k) (l .inv .0) in
     omega arith

@@ -16,7 +16,7 @@ use Rattle.layout.proofs.fill_sizes.Statement.{statement}
 use Rattle.layout.proofs.fill_sizes.Tie as tie
 
 abbrev Inv-loop : tie.InvT-loop
-Inv-loop rule shared sizes₀ k₀ sizes k = (k ≤ length rule) × (length rule ≤ 32) × (length sizes ≡ length sizes₀) × SizedTo (tableIn rule) sizes k
+Inv-loop rule shared sizes₀ k₀ sizes k = (k ≤ length rule) × (length rule ≤ 64) × (length sizes ≡ length sizes₀) × SizedTo (tableIn rule) sizes k
 
 abbrev μ-loop : tie.MeasureT-loop
 μ-loop rule shared sizes₀ k₀ sizes k = length rule - k
