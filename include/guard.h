@@ -1,26 +1,27 @@
 /*
  * The presentation guard, for C and C++.
  *
- * Link libguard.a (written by `rt staticlib guard` into target/staticlib; x86-64 Linux). It needs no other library, keeps
- * nothing between calls, allocates nothing, and may be called from several threads at once.
+ * Link libguard.a (written by `rt staticlib guard` into target/staticlib; x86-64 Linux), and for the functions over the second form and
+ * the moves libguard64.a (`rt staticlib guard64`); a program may link both. They need no other library, keep nothing between calls,
+ * allocate nothing, and may be called from several threads at once.
  *
  * Every function here is proved: for each input it ends, reads and writes only what is lent to it, and answers what
- * crates/spec/specs says (crates/guard/src/lib.rt has the contracts).
+ * crates/spec/specs says, a move what crates/moves/specs says (crates/guard/src/lib.rt and crates/guard64/src have the contracts).
  *
  * LENT MEMORY. Each array comes as a pointer and its length in elements, not in bytes. A pointer is aligned for its elements and
  * is not null, also where the length is 0 (any aligned address serves then). `const` arrays are only read. An array that a
  * function may write overlaps no other array of the same call, and no other thread uses it during the call. Every length is
  * allowed; nothing is read or written past it.
  *
- * THE NUMBER HANDED BACK is 0, or 1 to 19: the question that has a no (enum guard_question), or GUARD_TOO_SHORT where the lent
- * `numbers` or `state` is shorter than the function needs, or (guard_step alone) GUARD_TOO_LARGE.
+ * THE NUMBER HANDED BACK is 0, or 1 to 20: the question that has a no (enum guard_question), or GUARD_TOO_SHORT where the lent
+ * `numbers` or `state` is shorter than the function needs, or (a step alone) GUARD_TOO_LARGE.
  *
  * THE OTHER NUMBERS of an answer go into the first elements of `numbers`, as many as the function's GUARD_..._NUMBERS; elements
- * after these stay as they were. On a refusal (1 to 19) numbers[GUARD_PLACE] is the place and every other number of the answer
+ * after these stay as they were. On a refusal (1 to 20) numbers[GUARD_PLACE] is the place and every other number of the answer
  * is 0; otherwise the place is 0.
  *
- * WHAT A REFUSAL LEAVES UNTOUCHED. With 1 to 19 the output of guard_text, guard_weave and guard_facts and the history of guard_run
- * are as they were. With GUARD_TOO_SHORT and GUARD_TOO_LARGE nothing at all is written, `numbers` and `state` included.
+ * WHAT A REFUSAL LEAVES UNTOUCHED. With 1 to 20 `out`, and the history of a run, are as they were. With GUARD_TOO_SHORT and
+ * GUARD_TOO_LARGE nothing at all is written, `numbers` and `state` included.
  *
  * FORMATS. A rule is 1 to 32 nodes, one 32-bit word each, from the most significant bit: kind 3 bits, register 4, constant 14,
  * left 5, right 5, a zero bit; an operand is a node's number, from 0. A node may be an operand more than once. Since and weak previous,
@@ -32,11 +33,17 @@
  * 13 goes to its target if register r equals the one whose number is in c; 14 lowers register r by c and stops at 0. A history has
  * 16 numbers for each presentation, the registers at that time, each at most 16,383.
  *
+ * THE SECOND FORM of rules and annotated scripts has room for 64 nodes. A rule is 1 to 64 nodes, one 64-bit word each: kind 3 bits,
+ * register 4, constant 14, left 6, right 6, 31 zero bits. An annotated script has eight 64-bit words a line, the instruction in the upper
+ * half of the first and zeros below it. Bare scripts and instructions without facts have 32-bit words in both forms. A function whose
+ * name ends in 64 is the one of the same name over the second form. guard_rule_up to guard_script_back move what is stored from one
+ * form to the other.
+ *
  * STACK. A proof knows nothing of the stack, so what a call takes was measured: on a painted stack, with rules as deeply nested as
- * 32 nodes allow, full scripts and random requests (reference/compare/tests/stack.rs, which also holds enum guard_stack to it).
- * The numbers are for libguard.a, which is x86-64; another compiler's are its own. No call takes more for a longer input. Only
- * guard_weave calls itself inside, once for each implies around a node; guard_facts has the notes of its search there, 57 KB, so it
- * takes the most.
+ * 32 or 64 nodes allow, full scripts and random requests (reference/compare/tests/stack.rs, which also holds enum guard_stack to it).
+ * The numbers are for libguard.a and libguard64.a, which are x86-64; another compiler's are its own. No call takes more for a longer input. Only
+ * guard_weave and guard_weave64 call themselves inside, once for each implies that has a node in its left operand; guard_facts and guard_facts64 have the notes
+ * of their search there, 57 KB, so they take the most.
  */
 #ifndef GUARD_H
 #define GUARD_H
@@ -48,11 +55,12 @@
 extern "C" {
 #endif
 
-/* The questions, in the order in which they are put, but for a text: 16, 17, 18, then 13, and for facts to be found: 1 to 7,
- * 19, then 13. Each is put to the whole input before the next. In brackets what the place counts, from 0; the others have place 0. */
+/* The questions, in the order in which they are put, but for a text: 16, 17, 18, then 13, for facts to be found: 1 to 7, 19, then 13,
+ * and for a move back: 1 to 4, 20, of a script 5 to 8, then 13. Each is put to the whole input before the next. In brackets what the
+ * place counts, from 0; the others have place 0. */
 enum guard_question {
     GUARD_YES = 0,                /* every question has a yes */
-    GUARD_NODE_COUNT = 1,         /* has the rule 1 to 32 nodes? */
+    GUARD_NODE_COUNT = 1,         /* has the rule 1 to 32 nodes, in the second form 1 to 64? */
     GUARD_NODE_FIELDS = 2,        /* are kinds 0 to 6, unused fields zero, register in the constant at most 15? (node) */
     GUARD_NODE_OPERANDS = 3,      /* are operands lower than their node? (node) */
     GUARD_NODE_USED = 4,          /* is each node but the last an operand at least once? (node) */
@@ -66,16 +74,17 @@ enum guard_question {
     GUARD_PRESENT_KNOWN = 10,     /* at each present, is the rule known to be true? (line) */
     GUARD_FACTS_FOLLOW = 11,      /* are the facts noted at each following line among those passed on? (the line passing) */
     GUARD_WOVEN_LINES = 12,       /* has the woven script at most 1,024 lines? */
-    GUARD_OUTPUT_WORDS = 13,      /* are there enough words in the output, eight for an annotated line, one for a text's node? */
+    GUARD_OUTPUT_WORDS = 13,      /* are there enough words in the output, eight for an annotated line, one for a node? */
     GUARD_HISTORY_LENGTH = 14,    /* is the history's length a multiple of 16? */
     GUARD_NUMBERS_SMALL = 15,     /* are all numbers of the history, or of the inputs, at most 16,383? (position) */
     GUARD_TEXT_GRAMMAR = 16,      /* is the text one of the grammar? (the first byte that no continuation could follow, or the
                                      length where the text ends too soon) */
     GUARD_TEXT_RANGE = 17,        /* are registers at most 15, numbers at most 16,383? (the first byte of the number) */
-    GUARD_TEXT_NODE_COUNT = 18,   /* has the rule that the text stands for at most 32 nodes? */
+    GUARD_TEXT_NODE_COUNT = 18,   /* has the rule that the text stands for at most 32 nodes, in the second form 64? */
     GUARD_PRESENT_LOST = 19,      /* at each present, is the rule known to be true by the largest facts? If not, no facts whatever get
                                      these instructions accepted (line) */
-    GUARD_TOO_LARGE = 98,         /* guard_step: a register in `state` is above 65,535 */
+    GUARD_MOVED_NODE_COUNT = 20,  /* has the rule that moves back to the first form at most 32 nodes? */
+    GUARD_TOO_LARGE = 98,         /* a step: a register in `state` is above 65,535 */
     GUARD_TOO_SHORT = 99          /* `numbers` or `state` is shorter than the function needs */
 };
 
@@ -83,6 +92,7 @@ enum {
     GUARD_REGISTERS = 16,         /* registers of a script, numbers of a state in a history */
     GUARD_LARGEST = 16383,        /* the largest number of a register */
     GUARD_MOST_NODES = 32,
+    GUARD_MOST_NODES64 = 64,      /* in the second form */
     GUARD_MOST_LINES = 1024,
     GUARD_LINE_WORDS = 8          /* words of an annotated line */
 };
@@ -90,16 +100,30 @@ enum {
 /* Bytes of stack that a call of each function takes at most, its return address included, rounded up to the next 128. What
  * interrupts and signal handlers put on the same stack comes on top. */
 enum guard_stack {
-    GUARD_STACK_TEXT = 1280,
-    GUARD_STACK_RULE = 128,
-    GUARD_STACK_BARE = 384,
-    GUARD_STACK_SCRIPT = 896,
-    GUARD_STACK_WEAVE = 10624,
-    GUARD_STACK_FACTS = 58368,
-    GUARD_STACK_JUDGE = 256,
-    GUARD_STACK_RUN = 1024,
-    GUARD_STACK_FRESH = 128,
-    GUARD_STACK_STEP = 512
+    GUARD_STACK_TEXT = 2432,
+    GUARD_STACK_RULE = 256,
+    GUARD_STACK_BARE = 256,
+    GUARD_STACK_SCRIPT = 1152,
+    GUARD_STACK_WEAVE = 10880,
+    GUARD_STACK_FACTS = 58496,
+    GUARD_STACK_JUDGE = 512,
+    GUARD_STACK_RUN = 1280,
+    GUARD_STACK_FRESH = 384,
+    GUARD_STACK_STEP = 512,
+    GUARD_STACK_TEXT64 = 2432,
+    GUARD_STACK_RULE64 = 256,
+    GUARD_STACK_BARE64 = 384,
+    GUARD_STACK_SCRIPT64 = 896,
+    GUARD_STACK_WEAVE64 = 20352,
+    GUARD_STACK_FACTS64 = 58240,
+    GUARD_STACK_JUDGE64 = 256,
+    GUARD_STACK_RUN64 = 1024,
+    GUARD_STACK_FRESH64 = 128,
+    GUARD_STACK_STEP64 = 512,
+    GUARD_STACK_RULE_UP = 256,
+    GUARD_STACK_RULE_BACK = 256,
+    GUARD_STACK_SCRIPT_UP = 768,
+    GUARD_STACK_SCRIPT_BACK = 512
 };
 
 /* In the numbers of every function. */
@@ -240,6 +264,47 @@ uint32_t guard_fresh(const uint32_t *rule, size_t rule_length, uint64_t *state, 
 uint32_t guard_step(const uint32_t *rule, size_t rule_length, const uint32_t *script, size_t script_length,
                     const uint16_t *inputs, size_t inputs_length, uint16_t *history, size_t history_length,
                     uint64_t *state, size_t state_length);
+
+/* The same ten over the second form: what is said of guard_text holds for guard_text64, and so on, with 64 nodes for 32, and the same
+ * GUARD_..._NUMBERS and GUARD_STATE_NUMBERS. A rule and an annotated script of one call have the same form; a state has none, its sets
+ * have a bit for each of 64 nodes in both. */
+uint32_t guard_text64(const uint8_t *text, size_t text_length, uint64_t *out, size_t out_length,
+                      uint64_t *numbers, size_t numbers_length);
+uint32_t guard_rule64(const uint64_t *rule, size_t rule_length, uint64_t *numbers, size_t numbers_length);
+uint32_t guard_bare64(const uint64_t *rule, size_t rule_length, const uint32_t *script, size_t script_length,
+                      uint64_t *numbers, size_t numbers_length);
+uint32_t guard_script64(const uint64_t *rule, size_t rule_length, const uint64_t *script, size_t script_length,
+                        uint64_t *numbers, size_t numbers_length);
+uint32_t guard_weave64(const uint64_t *rule, size_t rule_length, const uint32_t *bare, size_t bare_length,
+                       uint64_t *out, size_t out_length, uint64_t *numbers, size_t numbers_length);
+uint32_t guard_facts64(const uint64_t *rule, size_t rule_length, const uint32_t *instructions, size_t instructions_length,
+                       uint64_t *out, size_t out_length, uint64_t *numbers, size_t numbers_length);
+uint32_t guard_judge64(const uint64_t *rule, size_t rule_length, const uint16_t *history, size_t history_length,
+                       uint64_t *numbers, size_t numbers_length);
+uint32_t guard_run64(const uint64_t *rule, size_t rule_length, const uint64_t *script, size_t script_length,
+                     const uint16_t *inputs, size_t inputs_length, uint64_t budget,
+                     uint16_t *history, size_t history_length, uint64_t *numbers, size_t numbers_length);
+uint32_t guard_fresh64(const uint64_t *rule, size_t rule_length, uint64_t *state, size_t state_length);
+uint32_t guard_step64(const uint64_t *rule, size_t rule_length, const uint64_t *script, size_t script_length,
+                      const uint16_t *inputs, size_t inputs_length, uint16_t *history, size_t history_length,
+                      uint64_t *state, size_t state_length);
+
+/* The moves, of a rule and of an annotated script: up, from the first form to the second, and back. A rule: questions 1 to 4, back 20, and
+ * 13. A script, with its rule in the form that it moves from: 1 to 4, back 20, 5 to 8, and 13; one that 9, 10 or 11 would refuse moves all
+ * the same. The words in the other form go to the first words of `out`, as many as there were; later ones stay. What has moved is the
+ * same rule or script: every other function answers as before, and what comes back is what it was. */
+enum {
+    GUARD_MOVE_COUNT = 1,         /* how many nodes, or lines, were written */
+    GUARD_MOVE_NUMBERS = 2
+};
+uint32_t guard_rule_up(const uint32_t *rule, size_t rule_length, uint64_t *out, size_t out_length,
+                       uint64_t *numbers, size_t numbers_length);
+uint32_t guard_rule_back(const uint64_t *rule, size_t rule_length, uint32_t *out, size_t out_length,
+                         uint64_t *numbers, size_t numbers_length);
+uint32_t guard_script_up(const uint32_t *rule, size_t rule_length, const uint32_t *script, size_t script_length,
+                         uint64_t *out, size_t out_length, uint64_t *numbers, size_t numbers_length);
+uint32_t guard_script_back(const uint64_t *rule, size_t rule_length, const uint64_t *script, size_t script_length,
+                           uint32_t *out, size_t out_length, uint64_t *numbers, size_t numbers_length);
 
 #ifdef __cplusplus
 }

@@ -1,17 +1,18 @@
-// The guard for C and Rust to call: every entry point, on numbers and slices. include/guard.h says the same to a reader of C.
+// The guard for C and Rust to call: every entry point, on numbers and slices. include/guard.h says the same to a reader of C. Here are the
+// functions over document 01's stored form; crate guard64 has those over the second, and the moves between them.
 // Each function hands back 0, or the number of the question that refused, or 99 where the lent words are fewer than it needs, and
 // writes its other numbers into the first of the lent words; later words stay. With 99 nothing is written anywhere.
-use crate::notes::note_count;
-use crate::notes::note_place;
-use crate::notes::note_report;
-use crate::notes::note_verdict;
-use crate::states::put_machine;
-use crate::states::read_machine;
-use crate::states::registers_fit;
 use checker::check_script;
 use finder::find_facts;
 use machine::Machine;
 use machine::run;
+use numbers::notes::note_count;
+use numbers::notes::note_place;
+use numbers::notes::note_report;
+use numbers::notes::note_verdict;
+use numbers::states::put_machine;
+use numbers::states::read_machine;
+use numbers::states::registers_fit;
 use rule::check_rule;
 use rule::verdict;
 use script::check_bare;
@@ -29,11 +30,8 @@ ghost use Rattle.spec.specs.Machine.{freshOf, running, reportOf, historyAfter};
 ghost use Rattle.spec.specs.Weaver.{weaving, outputAfter};
 ghost use Rattle.largest.specs.Largest.{foundAnswer, foundOutput};
 ghost use Rattle.grammar.specs.Texting.{texting, countOf, outputOf};
-ghost use Rattle.guard.specs.Numbers.{roomFor, tooShort, withWords, resultFor, checkedWords, countWords, verdictWords, reportWords};
-ghost use Rattle.guard.specs.States.{stateLength, stateWords, isStated, stepResult, stepped};
-
-mod notes;
-mod states;
+ghost use Rattle.numbers.specs.Numbers.{roomFor, tooShort, withWords, resultFor, checkedWords, countWords, verdictWords, reportWords};
+ghost use Rattle.numbers.specs.States.{stateLength, stateWords, isStated, stepResult, stepped};
 
 // A rule typed as text: questions 16, 17, 18 and 13. Two words: place, nodes. The nodes go to `out`, a word each.
 #[no_mangle]
@@ -178,8 +176,8 @@ pub extern "C" fn guard_step(
     state: &mut [u64],
 ) -> u32
     ensures result { λ r. ⌜ r ≡ stepResult (now (state .entry)) ⌝ }
-    ensures words { λ r. ⌜ now (state .exit) ≡ cond (isStated (now (state .entry))) (stateWords (stepped (now (rule .entry)) (now (script .entry)) (now (inputs .entry)) (now (state .entry)) (now (history .entry))) ++ drop stateLength (now (state .entry))) (now (state .entry)) ⌝ }
-    ensures left { λ r. ⌜ now (history .exit) ≡ cond (isStated (now (state .entry))) (stepped (now (rule .entry)) (now (script .entry)) (now (inputs .entry)) (now (state .entry)) (now (history .entry)) .history) (now (history .entry)) ⌝ }
+    ensures words { λ r. ⌜ now (state .exit) ≡ cond (isStated (now (state .entry))) (stateWords (stepped form32 (now (rule .entry)) (now (script .entry)) (now (inputs .entry)) (now (state .entry)) (now (history .entry))) ++ drop stateLength (now (state .entry))) (now (state .entry)) ⌝ }
+    ensures left { λ r. ⌜ now (history .exit) ≡ cond (isStated (now (state .entry))) (stepped form32 (now (rule .entry)) (now (script .entry)) (now (inputs .entry)) (now (state .entry)) (now (history .entry)) .history) (now (history .entry)) ⌝ }
 {
     if state.len() < 21 {
         return 99;

@@ -1,7 +1,7 @@
 -- `guard::guard_facts` meets its contract. Assumes nothing.
 use Rattle.largest.specs.Largest.{foundAnswer, foundOutput}
 use Rattle.spec.specs.Rule.{form32}
-use Rattle.guard.proofs.NoteLaws.{count-noted, count-unlent}
+use Rattle.numbers.proofs.NoteLaws.{count-noted, count-unlent}
 use borrow.Author.Needs.{needs}
 use Rattle.guard.proofs.guard_facts.Statement.{statement}
 use Rattle.guard.proofs.guard_facts.Tie as tie

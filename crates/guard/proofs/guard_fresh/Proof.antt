@@ -5,8 +5,8 @@ use Prim.Native.Nat.{ℕ}
 use lib.ListN.{drop}
 use Rattle.spec.specs.Rule.{form32}
 use Rattle.spec.specs.Machine.{Machine, freshOf}
-use Rattle.guard.specs.States.{stateWords}
-use Rattle.guard.proofs.NoteLaws.{room, no-room, words-room, words-no-room}
+use Rattle.numbers.specs.States.{stateWords}
+use Rattle.numbers.proofs.NoteLaws.{room, no-room, words-room, words-no-room}
 use borrow.Author.Needs.{needs}
 use Rattle.guard.proofs.guard_fresh.Statement.{statement}
 use Rattle.guard.proofs.guard_fresh.Tie as tie

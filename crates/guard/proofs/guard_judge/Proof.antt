@@ -2,8 +2,8 @@
 use Rattle.spec.specs.Rule.{form32}
 use Rattle.spec.specs.Judging.{judging}
 use Rattle.rule.specs.Answers.{verdictOf}
-use Rattle.guard.specs.Numbers.{verdictWords}
-use Rattle.guard.proofs.NoteLaws.{noted, unlent}
+use Rattle.numbers.specs.Numbers.{verdictWords}
+use Rattle.numbers.proofs.NoteLaws.{noted, unlent}
 use borrow.Author.Needs.{needs}
 use Rattle.guard.proofs.guard_judge.Statement.{statement}
 use Rattle.guard.proofs.guard_judge.Tie as tie

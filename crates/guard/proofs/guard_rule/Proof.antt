@@ -1,8 +1,8 @@
 -- `guard::guard_rule` meets its contract. Assumes nothing.
 use Rattle.spec.specs.Rule.{form32, checkRule}
 use Rattle.rule.specs.Answers.{answerOf}
-use Rattle.guard.specs.Numbers.{checkedWords}
-use Rattle.guard.proofs.NoteLaws.{noted, unlent}
+use Rattle.numbers.specs.Numbers.{checkedWords}
+use Rattle.numbers.proofs.NoteLaws.{noted, unlent}
 use borrow.Author.Needs.{needs}
 use Rattle.guard.proofs.guard_rule.Statement.{statement}
 use Rattle.guard.proofs.guard_rule.Tie as tie

@@ -6,8 +6,8 @@ use lib.ListN.{drop}
 use Rattle.spec.specs.Questions.{Answer}
 use Rattle.spec.specs.Rule.{form32}
 use Rattle.spec.specs.Machine.{Ended, running, Report, reportOf, historyAfter}
-use Rattle.guard.specs.Numbers.{numberOf, reportWords}
-use Rattle.guard.proofs.NoteLaws.{noted, unlent, room, no-room, report-number}
+use Rattle.numbers.specs.Numbers.{numberOf, reportWords}
+use Rattle.numbers.proofs.NoteLaws.{noted, unlent, room, no-room, report-number}
 use borrow.Author.Needs.{needs}
 use Rattle.guard.proofs.guard_run.Statement.{statement}
 use Rattle.guard.proofs.guard_run.Tie as tie

@@ -2,8 +2,8 @@
 use Rattle.spec.specs.Rule.{form32}
 use Rattle.spec.specs.Check.{checkScript}
 use Rattle.rule.specs.Answers.{answerOf}
-use Rattle.guard.specs.Numbers.{checkedWords}
-use Rattle.guard.proofs.NoteLaws.{noted, unlent}
+use Rattle.numbers.specs.Numbers.{checkedWords}
+use Rattle.numbers.proofs.NoteLaws.{noted, unlent}
 use borrow.Author.Needs.{needs}
 use Rattle.guard.proofs.guard_script.Statement.{statement}
 use Rattle.guard.proofs.guard_script.Tie as tie

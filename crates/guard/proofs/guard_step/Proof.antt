@@ -6,8 +6,8 @@ use borrow.Author.Tests.{not-true, not-false}
 use Rattle.spec.specs.Rule.{form32}
 use Rattle.spec.specs.Machine.{Machine, stepOf}
 use Rattle.machine.specs.Machines.{machineOf}
-use Rattle.guard.specs.States.{stateWords, machineIn, stepped}
-use Rattle.guard.proofs.StateLaws.{short, large, stated}
+use Rattle.numbers.specs.States.{stateWords, machineIn, stepped}
+use Rattle.numbers.proofs.StateLaws.{short, large, stated}
 use borrow.Author.Needs.{needs}
 use Rattle.guard.proofs.guard_step.Statement.{statement}
 use Rattle.guard.proofs.guard_step.Tie as tie

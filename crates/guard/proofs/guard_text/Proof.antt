@@ -2,7 +2,7 @@
 use lib.ListN.{length}
 use Rattle.grammar.specs.Texting.{texting, countOf, outputOf}
 use Rattle.spec.specs.Rule.{form32}
-use Rattle.guard.proofs.NoteLaws.{count-noted, count-unlent}
+use Rattle.numbers.proofs.NoteLaws.{count-noted, count-unlent}
 use borrow.Author.Needs.{needs}
 use Rattle.guard.proofs.guard_text.Statement.{statement}
 use Rattle.guard.proofs.guard_text.Tie as tie

@@ -1,7 +1,7 @@
 -- `guard::guard_weave` meets its contract. Assumes nothing.
 use Rattle.spec.specs.Weaver.{weaving, outputAfter}
 use Rattle.spec.specs.Rule.{form32}
-use Rattle.guard.proofs.NoteLaws.{count-noted, count-unlent}
+use Rattle.numbers.proofs.NoteLaws.{count-noted, count-unlent}
 use borrow.Author.Needs.{needs}
 use Rattle.guard.proofs.guard_weave.Statement.{statement}
 use Rattle.guard.proofs.guard_weave.Tie as tie

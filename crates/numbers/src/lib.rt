@@ -1,0 +1,3 @@
+// Answers and machines as numbers in lent memory, for the functions that C calls.
+pub mod notes;
+pub mod states;
