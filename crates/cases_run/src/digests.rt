@@ -1,4 +1,5 @@
 // One number for many words.
+use crate::loading::split_words;
 use crate::printing::print_named;
 use crate::printing::print_words;
 ghost use Prim.Native.Nat.{_≤_, _<_};
@@ -29,5 +30,14 @@ pub(crate) fn print_lent(out: &[u32]) {
         print_words(b"words", out);
     } else {
         print_named(b"digest", digest(1, out));
+    }
+}
+
+// The same of words of 64 bits, each as two.
+pub(crate) fn print_lent64(out: &[u64]) {
+    if out.len() <= 16384 {
+        let mut halves = [0u32; 32768];
+        split_words(out, &mut halves);
+        print_lent(&halves[..2 * out.len()]);
     }
 }

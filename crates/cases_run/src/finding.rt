@@ -1,5 +1,6 @@
-// Requests of kind 10: facts are found for instructions, into a lent output.
+// Requests of kinds 10 and 20: facts are found for instructions, into a lent output of the old form or the second.
 use crate::digests::print_lent;
+use crate::digests::print_lent64;
 use crate::printing::print_answer;
 use crate::printing::print_counted;
 use crate::printing::say;
@@ -19,5 +20,21 @@ pub(crate) fn answer_finding(rule: &[u32], instructions: &[u32], length: usize) 
     if length <= 16384 {
         let mut out = [4294967295u32; 16384];
         answer_lent(rule, instructions, &mut out[..length]);
+    }
+}
+
+fn answer_lent64(rule: &[u64], instructions: &[u32], out: &mut [u64]) {
+    print_counted(b"facts", finder::find_facts64(rule, instructions, out));
+    print_lent64(&out[..]);
+    if instructions.len() <= out.len() / 8 {
+        say(b"script ");
+        print_answer(checker::check_script64(rule, &out[..8 * instructions.len()]));
+    }
+}
+
+pub(crate) fn answer_finding64(rule: &[u64], instructions: &[u32], length: usize) {
+    if length <= 16384 {
+        let mut out = [18446744073709551615u64; 16384];
+        answer_lent64(rule, instructions, &mut out[..length]);
     }
 }

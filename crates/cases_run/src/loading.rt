@@ -31,3 +31,51 @@ pub(crate) fn load_numbers(s: &[u8], at: usize, count: usize, out: &mut [u16])
         i += 1;
     }
 }
+
+// Two words, the high one first.
+pub(crate) fn long(high: u32, low: u32) -> u64 {
+    high as u64 * 4294967296 + low as u64
+}
+
+// Words of 64 bits, each given as two.
+pub(crate) fn load_long(s: &[u8], at: usize, count: usize, out: &mut [u64])
+    requires { ⌜ (at ≤ 1000000) × (count ≤ 1000000) ⌝ }
+    ensures { λ r. ⌜ length (now (out .exit)) ≡ length (now (out .entry)) ⌝ }
+{
+    let mut i = 0;
+    while i < count {
+        if i < out.len() {
+            out[i] = long_at(s, at + 2 * i);
+        }
+        i += 1;
+    }
+}
+
+fn long_at(s: &[u8], at: usize) -> u64
+    requires { ⌜ at ≤ 4000000 ⌝ }
+{
+    long(word_at(s, at), word_at(s, at + 1))
+}
+
+// And back: word i of the two that each is.
+fn half_at(words: &[u64], i: usize) -> u32 {
+    if words.len() <= i / 2 {
+        return 0;
+    }
+    let word = words[i / 2];
+    if i % 2 == 0 {
+        (word / 4294967296 % 4294967296) as u32
+    } else {
+        (word % 4294967296) as u32
+    }
+}
+
+pub(crate) fn split_words(words: &[u64], out: &mut [u32])
+    ensures { λ r. ⌜ length (now (out .exit)) ≡ length (now (out .entry)) ⌝ }
+{
+    let mut i = 0;
+    while i < out.len() {
+        out[i] = half_at(words, i);
+        i += 1;
+    }
+}

@@ -1,11 +1,16 @@
 // Runs the entry points on requests from standard input, and prints what they answer.
 // A request is words of 32 bits, high byte first: kind, node count, nodes, word count, words. Kind 1 asks about the rule and a history,
 // a number a word; kind 2 about the rule and a script; kinds 3 and 4 run the script, kind 6 weaves it first, and they go on as `runs` says;
-// kinds 5 and 10 weave the script and find facts for it, and go on with the length of the lent output; kinds 7 to 9 are `texts`'. A 0 in place
-// of a kind is skipped. A count out of the buffers' range ends a block.
+// kinds 5 and 10 weave the script and find facts for it, and go on with the length of the lent output; kinds 7 to 9 are `texts`'. Kinds 11 to 17
+// and 20 are kinds 1 to 7 and 10 of the second form, 21 and 23 move a rule and a script to it, 22 and 24 back, as long as kind 5. A 0 in
+// place of a kind is skipped. A count out of the buffers' range ends a block.
 use crate::finding::answer_finding;
+use crate::finding::answer_finding64;
+use crate::loading::load_long;
 use crate::loading::load_numbers;
 use crate::loading::load_words;
+use crate::moving::answer_back;
+use crate::moving::answer_up;
 use crate::printing::print_answer;
 use crate::printing::print_number;
 use crate::printing::print_numbers;
@@ -14,13 +19,15 @@ use crate::printing::say;
 use crate::runs::answer_machine;
 use crate::texts::request_text;
 use crate::weaving::answer_weaving;
+use crate::weaving::answer_weaving64;
 use rule::answer::Verdict;
 use words::word_at;
-ghost use Prim.Native.Nat.{_<_, _≤_};
+ghost use Prim.Native.Nat.{_<_, _≤_, _+_};
 
 mod digests;
 mod finding;
 mod loading;
+mod moving;
 mod printing;
 mod runs;
 mod texts;
@@ -52,6 +59,16 @@ fn answer_history(rule: &[u32], history: &[u16], numbers: usize) {
     print_numbers(b"part", rule::judge(rule, h));
 }
 
+fn answer_history64(rule: &[u64], history: &[u16], numbers: usize) {
+    if history.len() < numbers {
+        return;
+    }
+    let h = &history[..numbers];
+    print_answer(rule::check_rule64(rule));
+    print_verdict(rule::verdict64(rule, h));
+    print_numbers(b"part", rule::judge64(rule, h));
+}
+
 fn answer_script(rule: &[u32], script: &[u32]) {
     say(b"bare ");
     print_answer(script::check_bare(rule, script));
@@ -74,16 +91,83 @@ fn answer(s: &[u8], kind: u32, rule: &[u32], nodes: usize, at: usize, count: usi
     } else {
         let mut script = [0u32; 16384];
         load_words(s, at, count, &mut script);
+        let w = &script[..count];
+        let after = at + count;
+        let length = word_at(s, after) as usize;
         if kind == 2 {
-            answer_script(r, &script[..count]);
+            answer_script(r, w);
         } else if kind == 5 {
-            answer_weaving(r, &script[..count], word_at(s, at + count) as usize);
+            answer_weaving(r, w, length);
         } else if kind == 10 {
-            answer_finding(r, &script[..count], word_at(s, at + count) as usize);
+            answer_finding(r, w, length);
+        } else if 21 <= kind {
+            answer_up(kind, r, w, length);
         } else {
-            answer_machine(s, kind, r, &script[..count], at + count);
+            let none = [0u64; 1];
+            answer_machine(s, kind, r, w, &none, &none, after);
         }
     }
+}
+
+// The same of the second form with words of 32 bits: a history, a bare script, instructions without facts.
+fn answer_short(s: &[u8], kind: u32, r: &[u64], at: usize, count: usize)
+    requires { ⌜ (at ≤ 20000) × (count ≤ 16384) ⌝ }
+{
+    if kind == 11 {
+        let mut history = [0u16; 16384];
+        load_numbers(s, at, count, &mut history);
+        answer_history64(r, &history, count);
+    } else {
+        let mut script = [0u32; 16384];
+        load_words(s, at, count, &mut script);
+        let w = &script[..count];
+        let after = at + count;
+        let length = word_at(s, after) as usize;
+        if kind == 15 {
+            answer_weaving64(r, w, length);
+        } else if kind == 20 {
+            answer_finding64(r, w, length);
+        } else {
+            let none = [0u32; 1];
+            answer_machine(s, kind, &none, w, r, r, after);
+        }
+    }
+}
+
+// And with words of 64 bits: a script.
+fn answer_long(s: &[u8], kind: u32, r: &[u64], at: usize, count: usize)
+    requires { ⌜ (at ≤ 20000) × (count ≤ 16384) ⌝ }
+{
+    let mut script = [0u64; 16384];
+    load_long(s, at, count, &mut script);
+    let w = &script[..count];
+    let after = at + 2 * count;
+    if kind == 12 {
+        say(b"script ");
+        print_answer(checker::check_script64(r, w));
+    } else if 21 <= kind {
+        answer_back(kind, r, w, word_at(s, after) as usize);
+    } else {
+        let none = [0u32; 1];
+        answer_machine(s, kind, &none, &none, r, w, after);
+    }
+}
+
+// Whether nodes are of the second form, and whether the words after them are.
+fn has_long_nodes(kind: u32) -> bool {
+    (11 <= kind) & (kind <= 20) | (kind == 22) | (kind == 24)
+}
+
+fn has_long_words(kind: u32) -> bool {
+    (12 <= kind) & (kind <= 14) | (kind == 22) | (kind == 24)
+}
+
+// How many words of a request so many words of its rule or script are.
+fn size_of(count: usize, long: bool) -> usize
+    requires { ⌜ count ≤ 16384 ⌝ }
+    ensures { λ r. ⌜ r ≤ count + count ⌝ }
+{
+    if long { count + count } else { count }
 }
 
 // The request that starts at word `at`, and where the next one starts.
@@ -95,25 +179,36 @@ fn request(s: &[u8], at: usize) -> usize
     if kind == 0 {
         return at + 1;
     }
-    if (7 <= kind) & (kind <= 9) {
+    if (7 <= kind) & (kind <= 9) | (kind == 17) {
         return request_text(s, kind, at);
     }
     let nodes = word_at(s, at + 1) as usize;
-    if 64 < nodes {
+    if 80 < nodes {
         return 100000;
     }
-    let count = word_at(s, at + 2 + nodes) as usize;
+    let start = at + 3 + size_of(nodes, has_long_nodes(kind));
+    let count = word_at(s, start - 1) as usize;
     if 16384 < count {
         return 100000;
     }
-    let mut rule = [0u32; 64];
-    load_words(s, at + 2, nodes, &mut rule);
-    answer(s, kind, &rule, nodes, at + 3 + nodes, count);
-    let next = at + 3 + nodes + count;
-    if kind < 3 {
+    if has_long_nodes(kind) {
+        let mut rule = [0u64; 80];
+        load_long(s, at + 2, nodes, &mut rule);
+        if has_long_words(kind) {
+            answer_long(s, kind, &rule[..nodes], start, count);
+        } else {
+            answer_short(s, kind, &rule[..nodes], start, count);
+        }
+    } else {
+        let mut rule = [0u32; 80];
+        load_words(s, at + 2, nodes, &mut rule);
+        answer(s, kind, &rule, nodes, start, count);
+    }
+    let next = start + size_of(count, has_long_words(kind));
+    if (kind < 3) | (kind == 11) | (kind == 12) {
         return next;
     }
-    if (kind == 5) | (kind == 10) {
+    if (kind == 5) | (kind == 10) | (kind == 15) | (20 <= kind) {
         return next + 1;
     }
     let inputs = word_at(s, next) as usize;

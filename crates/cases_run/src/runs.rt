@@ -1,5 +1,7 @@
-// Requests of kinds 3, 4 and 6: a script is run with a budget, or step by step; a bare script is woven, and what was woven is run.
+// Requests of kinds 3, 4 and 6: a script is run with a budget, or step by step; a bare script is woven, and what was woven is run. Kinds 13,
+// 14 and 16 are the same of the second form.
 use crate::loading::load_numbers;
+use crate::loading::long;
 use crate::printing::print_answer;
 use crate::printing::print_named;
 use crate::printing::print_number;
@@ -7,10 +9,12 @@ use crate::printing::print_numbers;
 use crate::printing::print_refused;
 use crate::printing::say;
 use checker::check_script;
+use checker::check_script64;
 use machine::Machine;
+use machine::answer::RunAnswer;
 use machine::answer::Stop;
 use rule::answer::Counted;
-use rule::node::past_at;
+use rule::shared::past_at;
 use rule::shared::work_at;
 use sets::has;
 use words::word_at;
@@ -27,11 +31,11 @@ fn print_stop(s: Stop) {
 }
 
 // The kept bits, or the work bits, of the nodes that have one, rising.
-fn print_bits(name: &[u8], rule: &[u32], work: bool, bits: u64) {
+fn print_bits(name: &[u8], rule: &[u32], rule64: &[u64], is_wide: bool, work: bool, bits: u64) {
     say(name);
     let mut k: usize = 0;
-    while k < rule.len() {
-        if past_at(rule, k) | (work & work_at(rule, k)) {
+    while k < 64 {
+        if past_at(rule, rule64, is_wide, k) | (work & work_at(rule, rule64, is_wide, k)) {
             print_number(if has(bits, k) { 1 } else { 0 });
         }
         k += 1;
@@ -39,72 +43,157 @@ fn print_bits(name: &[u8], rule: &[u32], work: bool, bits: u64) {
     say(b"\n");
 }
 
-fn answer_run(rule: &[u32], script: &[u32], inputs: &[u16], budget: u64, history: &mut [u16]) {
-    let a = machine::run(rule, script, inputs, budget, history);
+fn print_run(a: RunAnswer, with_steps: bool, history: &[u16]) {
     let stop = a.stop;
     let registers = a.registers;
     print_stop(stop);
     print_named(b"line", a.line as u64);
     print_numbers(b"registers", &registers);
-    print_named(b"steps", a.steps);
+    if with_steps {
+        print_named(b"steps", a.steps);
+    }
     print_named(b"presentations", a.presentations as u64);
     print_named(b"reads", a.reads as u64);
-    print_numbers(b"history", &history[..]);
+    print_numbers(b"history", history);
 }
 
-fn answer_steps(rule: &[u32], script: &[u32], inputs: &[u16], count: u64, history: &mut [u16]) {
-    let mut m = Machine::fresh(rule);
+fn answer_run(rule: &[u32], script: &[u32], inputs: &[u16], budget: u64, history: &mut [u16]) {
+    let a = machine::run(rule, script, inputs, budget, history);
+    print_run(a, true, &history[..]);
+}
+
+fn answer_run64(rule: &[u64], script: &[u64], inputs: &[u16], budget: u64, history: &mut [u16]) {
+    let a = machine::run64(rule, script, inputs, budget, history);
+    print_run(a, true, &history[..]);
+}
+
+// Of the two rules and scripts the ones of the form that `is_wide` says are read.
+fn fresh_in(rule: &[u32], rule64: &[u64], is_wide: bool) -> Machine {
+    if is_wide {
+        return Machine::fresh64(rule64);
+    }
+    Machine::fresh(rule)
+}
+
+fn step_in(
+    m: Machine,
+    rule: &[u32],
+    script: &[u32],
+    rule64: &[u64],
+    script64: &[u64],
+    is_wide: bool,
+    inputs: &[u16],
+    history: &mut [u16],
+) -> Machine {
+    if is_wide {
+        return m.step64(rule64, script64, inputs, history);
+    }
+    m.step(rule, script, inputs, history)
+}
+
+fn answer_steps(
+    rule: &[u32],
+    script: &[u32],
+    rule64: &[u64],
+    script64: &[u64],
+    is_wide: bool,
+    inputs: &[u16],
+    count: u64,
+    history: &mut [u16],
+) {
+    let mut m = fresh_in(rule, rule64, is_wide);
     let mut i: u64 = 0;
     while i < count {
-        m = m.step(rule, script, inputs, history);
+        m = step_in(m, rule, script, rule64, script64, is_wide, inputs, history);
         i += 1;
     }
     let registers = m.registers;
     say(b"stepped\n");
     print_named(b"line", m.line as u64);
     print_numbers(b"registers", &registers);
-    print_bits(b"kept", rule, false, m.kept);
-    print_bits(b"work", rule, true, m.work);
+    print_bits(b"kept", rule, rule64, is_wide, false, m.kept);
+    print_bits(b"work", rule, rule64, is_wide, true, m.work);
     print_named(b"presentations", m.presentations as u64);
     print_named(b"reads", m.reads as u64);
     print_numbers(b"history", &history[..]);
 }
 
-// The steps are not printed: the machine that the answers are compared with has others.
-fn answer_woven(rule: &[u32], script: &[u32], inputs: &[u16], budget: u64, history: &mut [u16]) {
-    print_answer(check_script(rule, script));
-    let a = machine::run(rule, script, inputs, budget, history);
-    let stop = a.stop;
-    let registers = a.registers;
-    print_stop(stop);
-    print_named(b"line", a.line as u64);
-    print_numbers(b"registers", &registers);
-    print_named(b"presentations", a.presentations as u64);
-    print_named(b"reads", a.reads as u64);
-    print_numbers(b"history", &history[..]);
-}
-
-// Weaves a bare script, asks about what was woven, and runs it.
+// Weaves a bare script, asks about what was woven, and runs it. The steps are not printed: the machine that the answers are compared with
+// has others.
 fn answer_bare(rule: &[u32], bare: &[u32], inputs: &[u16], budget: u64, history: &mut [u16]) {
     let mut out = [0u32; 8192];
     match weaver::weave(rule, bare, &mut out) {
         Counted::Refused { question, place } => print_refused(question, place),
         Counted::Count(lines) => {
             if lines <= 1024 {
-                answer_woven(rule, &out[..8 * lines], inputs, budget, history);
+                let script = &out[..8 * lines];
+                print_answer(check_script(rule, script));
+                let a = machine::run(rule, script, inputs, budget, history);
+                print_run(a, false, &history[..]);
             }
         }
     }
 }
 
-// Two words, the high one first.
-fn long(high: u32, low: u32) -> u64 {
-    high as u64 * 4294967296 + low as u64
+fn answer_bare64(rule: &[u64], bare: &[u32], inputs: &[u16], budget: u64, history: &mut [u16]) {
+    let mut out = [0u64; 8192];
+    match weaver::weave64(rule, bare, &mut out) {
+        Counted::Refused { question, place } => print_refused(question, place),
+        Counted::Count(lines) => {
+            if lines <= 1024 {
+                let script = &out[..8 * lines];
+                print_answer(check_script64(rule, script));
+                let a = machine::run64(rule, script, inputs, budget, history);
+                print_run(a, false, &history[..]);
+            }
+        }
+    }
 }
 
-// What a run, a number of steps, or weaving and a run make of a script. From word `at` on: input count, inputs, the budget or the number of
+fn answer_for(
+    kind: u32,
+    rule: &[u32],
+    script: &[u32],
+    rule64: &[u64],
+    script64: &[u64],
+    inputs: &[u16],
+    most: u64,
+    history: &mut [u16],
+) {
+    if kind == 3 {
+        answer_run(rule, script, inputs, most, history);
+    } else if kind == 6 {
+        answer_bare(rule, script, inputs, most, history);
+    } else if kind == 13 {
+        answer_run64(rule64, script64, inputs, most, history);
+    } else if kind == 16 {
+        answer_bare64(rule64, script, inputs, most, history);
+    } else {
+        answer_steps(
+            rule,
+            script,
+            rule64,
+            script64,
+            kind == 14,
+            inputs,
+            most,
+            history,
+        );
+    }
+}
+
+// What a run, a number of steps, or weaving and a run make of a script, which is of the form of the kind; a bare one is of words of 32 bits
+// in both. From word `at` on: input count, inputs, the budget or the number of
 // steps as two words, the length of the lent history. A lent history has 60,000 everywhere, which no register can hold.
-pub(crate) fn answer_machine(s: &[u8], kind: u32, rule: &[u32], script: &[u32], at: usize)
+pub(crate) fn answer_machine(
+    s: &[u8],
+    kind: u32,
+    rule: &[u32],
+    script: &[u32],
+    rule64: &[u64],
+    script64: &[u64],
+    at: usize,
+)
     requires { ⌜ at ≤ 100000 ⌝ }
 {
     let count = word_at(s, at) as usize;
@@ -120,11 +209,14 @@ pub(crate) fn answer_machine(s: &[u8], kind: u32, rule: &[u32], script: &[u32], 
     let mut inputs = [0u16; 16384];
     load_numbers(s, at + 1, count, &mut inputs);
     let mut history = [60000u16; 16384];
-    if kind == 3 {
-        answer_run(rule, script, &inputs[..count], most, &mut history[..length]);
-    } else if kind == 4 {
-        answer_steps(rule, script, &inputs[..count], most, &mut history[..length]);
-    } else {
-        answer_bare(rule, script, &inputs[..count], most, &mut history[..length]);
-    }
+    answer_for(
+        kind,
+        rule,
+        script,
+        rule64,
+        script64,
+        &inputs[..count],
+        most,
+        &mut history[..length],
+    );
 }

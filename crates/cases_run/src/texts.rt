@@ -1,6 +1,7 @@
-// Requests of kinds 7 to 9, about a rule typed as text: kind, a number, byte count, bytes, which fill whole words. Kind 7 reads the text into an
-// output of that many words; kind 8 is an input of the compile program; kind 9 reads the text with each of its bytes changed to every byte.
+// Requests of kinds 7 to 9 and 17, about a rule typed as text: kind, a number, byte count, bytes, which fill whole words. Kinds 7 and 17 read the
+// text into an output of that many words, of the old form and of the second; kind 8 is an input of the compile program; kind 9 reads the text with each of its bytes changed to every byte.
 use crate::digests::digest;
+use crate::digests::print_lent64;
 use crate::printing::print_counted;
 use crate::printing::print_named;
 use crate::printing::print_words;
@@ -8,6 +9,7 @@ use crate::printing::say;
 use print::add_bytes;
 use rule::answer::Counted;
 use text::read_text;
+use text::read_text64;
 use words::word_at;
 ghost use mathlib.Core.Path.{_≡_};
 ghost use Prim.Native.Nat.{_<_};
@@ -24,6 +26,18 @@ fn answer_text(text: &[u8], length: usize) {
     if length <= 64 {
         let mut out = [4294967295u32; 64];
         answer_lent(text, &mut out[..length]);
+    }
+}
+
+fn answer_lent64(text: &[u8], out: &mut [u64]) {
+    print_counted(b"nodes", read_text64(text, out));
+    print_lent64(&out[..]);
+}
+
+fn answer_text64(text: &[u8], length: usize) {
+    if length <= 80 {
+        let mut out = [18446744073709551615u64; 80];
+        answer_lent64(text, &mut out[..length]);
     }
 }
 
@@ -97,6 +111,8 @@ fn answer_spoiled(text: &[u8]) {
 fn answer(kind: u32, number: usize, bytes: &[u8]) {
     if kind == 7 {
         answer_text(bytes, number);
+    } else if kind == 17 {
+        answer_text64(bytes, number);
     } else if kind == 8 {
         answer_compile(bytes);
     } else {

@@ -33,56 +33,35 @@ load-words-requires c κs = search needs
 array-share-prefix-script : tie.Need-array-share-prefix-script
 array-share-prefix-script c = search needs
 
-slice-aggregate-answer-script : tie.Need-slice-aggregate-answer-script
-slice-aggregate-answer-script c = sym (length-take-le _ _ (omega arith))
+slice-aggregate-w : tie.Need-slice-aggregate-w
+slice-aggregate-w c = sym (length-take-le _ _ (omega arith))
 
-answer-script-requires : tie.Need-answer-script-requires
-answer-script-requires c κs = search needs
-
-array-share-prefix-script-2 : tie.Need-array-share-prefix-script-2
-array-share-prefix-script-2 c = search needs
-
-slice-aggregate-answer-weaving : tie.Need-slice-aggregate-answer-weaving
-slice-aggregate-answer-weaving c = sym (length-take-le _ _ (omega arith))
-
-add-word-at : tie.Need-add-word-at
-add-word-at c = search needs
+add-after : tie.Need-add-after
+add-after c = search needs
 
 word-at-requires : tie.Need-word-at-requires
 word-at-requires c κs = search needs
 
-cast-answer-weaving : tie.Need-cast-answer-weaving
-cast-answer-weaving c = search needs
+cast-length : tie.Need-cast-length
+cast-length c = search needs
+
+answer-script-requires : tie.Need-answer-script-requires
+answer-script-requires c κs = search needs
 
 answer-weaving-requires : tie.Need-answer-weaving-requires
 answer-weaving-requires c κs = search needs
 
-array-share-prefix-script-3 : tie.Need-array-share-prefix-script-3
-array-share-prefix-script-3 c = search needs
-
-slice-aggregate-answer-finding : tie.Need-slice-aggregate-answer-finding
-slice-aggregate-answer-finding c = sym (length-take-le _ _ (omega arith))
-
-add-word-at-2 : tie.Need-add-word-at-2
-add-word-at-2 c = search needs
-
-word-at-requires-2 : tie.Need-word-at-requires-2
-word-at-requires-2 c κs = search needs
-
-cast-answer-finding : tie.Need-cast-answer-finding
-cast-answer-finding c = search needs
-
 answer-finding-requires : tie.Need-answer-finding-requires
 answer-finding-requires c κs = search needs
 
-array-share-prefix-script-4 : tie.Need-array-share-prefix-script-4
-array-share-prefix-script-4 c = search needs
+answer-up-requires : tie.Need-answer-up-requires
+answer-up-requires c κs = search needs
 
 slice-aggregate-answer-machine : tie.Need-slice-aggregate-answer-machine
-slice-aggregate-answer-machine c = sym (length-take-le _ _ (omega arith))
+slice-aggregate-answer-machine c = search needs
 
-add-answer-machine : tie.Need-add-answer-machine
-add-answer-machine c = search needs
+slice-aggregate-answer-machine-2 : tie.Need-slice-aggregate-answer-machine-2
+slice-aggregate-answer-machine-2 c = search needs
 
 answer-machine-requires : tie.Need-answer-machine-requires
 answer-machine-requires c κs = search needs
@@ -102,6 +81,9 @@ returns-5 c = search needs
 returns-6 : tie.Need-returns-6
 returns-6 c = search needs
 
+returns-7 : tie.Need-returns-7
+returns-7 c = search needs
+
 pub answer-spec : {M : Type 1} → statement M
 answer-spec =
     tie.close
@@ -115,26 +97,20 @@ answer-spec =
     slice-aggregate-load-words
     load-words-requires
     array-share-prefix-script
-    slice-aggregate-answer-script
-    answer-script-requires
-    array-share-prefix-script-2
-    slice-aggregate-answer-weaving
-    add-word-at
+    slice-aggregate-w
+    add-after
     word-at-requires
-    cast-answer-weaving
+    cast-length
+    answer-script-requires
     answer-weaving-requires
-    array-share-prefix-script-3
-    slice-aggregate-answer-finding
-    add-word-at-2
-    word-at-requires-2
-    cast-answer-finding
     answer-finding-requires
-    array-share-prefix-script-4
+    answer-up-requires
     slice-aggregate-answer-machine
-    add-answer-machine
+    slice-aggregate-answer-machine-2
     answer-machine-requires
     returns-2
     returns-3
     returns-4
     returns-5
-    returns-6)
+    returns-6
+    returns-7)

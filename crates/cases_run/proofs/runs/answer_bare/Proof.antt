@@ -27,11 +27,20 @@ mul-out c = search needs
 array-share-prefix-out : tie.Need-array-share-prefix-out
 array-share-prefix-out c = search needs
 
-slice-aggregate-answer-woven : tie.Need-slice-aggregate-answer-woven
-slice-aggregate-answer-woven c = sym (length-take-le _ _ (omega arith))
+slice-aggregate-script : tie.Need-slice-aggregate-script
+slice-aggregate-script c = sym (length-take-le _ _ (omega arith))
 
-answer-woven-requires : tie.Need-answer-woven-requires
-answer-woven-requires c κs = search needs
+check-script-requires : tie.Need-check-script-requires
+check-script-requires c κs = search needs
+
+print-answer-requires : tie.Need-print-answer-requires
+print-answer-requires c κs = search needs
+
+run-requires : tie.Need-run-requires
+run-requires c κs = search needs
+
+print-run-requires : tie.Need-print-run-requires
+print-run-requires c κs = search needs
 
 returns : tie.Need-returns
 returns c = search needs
@@ -56,8 +65,11 @@ answer-bare-spec =
     enum-known-lines
     mul-out
     array-share-prefix-out
-    slice-aggregate-answer-woven
-    answer-woven-requires
+    slice-aggregate-script
+    check-script-requires
+    print-answer-requires
+    run-requires
+    print-run-requires
     returns
     same-length
     returns-2

@@ -57,56 +57,20 @@ load-numbers-requires c κs = search needs
 array-share-prefix-inputs : tie.Need-array-share-prefix-inputs
 array-share-prefix-inputs c = search needs
 
-slice-aggregate-answer-run : tie.Need-slice-aggregate-answer-run
-slice-aggregate-answer-run c = sym (length-take-le _ _ (omega arith))
+slice-aggregate-answer-for : tie.Need-slice-aggregate-answer-for
+slice-aggregate-answer-for c = sym (length-take-le _ _ (omega arith))
 
 array-borrow-prefix-history : tie.Need-array-borrow-prefix-history
 array-borrow-prefix-history c = search needs
 
-slice-aggregate-answer-run-2 : tie.Need-slice-aggregate-answer-run-2
-slice-aggregate-answer-run-2 c = sym (length-take-le _ _ (omega arith))
+slice-aggregate-answer-for-2 : tie.Need-slice-aggregate-answer-for-2
+slice-aggregate-answer-for-2 c = sym (length-take-le _ _ (omega arith))
 
-answer-run-requires : tie.Need-answer-run-requires
-answer-run-requires c κs = search needs
-
-array-share-prefix-inputs-2 : tie.Need-array-share-prefix-inputs-2
-array-share-prefix-inputs-2 c = search needs
-
-slice-aggregate-answer-steps : tie.Need-slice-aggregate-answer-steps
-slice-aggregate-answer-steps c = sym (length-take-le _ _ (omega arith))
-
-array-borrow-prefix-history-2 : tie.Need-array-borrow-prefix-history-2
-array-borrow-prefix-history-2 c = search needs
-
-slice-aggregate-answer-steps-2 : tie.Need-slice-aggregate-answer-steps-2
-slice-aggregate-answer-steps-2 c = sym (length-take-le _ _ (omega arith))
-
-answer-steps-requires : tie.Need-answer-steps-requires
-answer-steps-requires c κs = search needs
-
-array-share-prefix-inputs-3 : tie.Need-array-share-prefix-inputs-3
-array-share-prefix-inputs-3 c = search needs
-
-slice-aggregate-answer-bare : tie.Need-slice-aggregate-answer-bare
-slice-aggregate-answer-bare c = sym (length-take-le _ _ (omega arith))
-
-array-borrow-prefix-history-3 : tie.Need-array-borrow-prefix-history-3
-array-borrow-prefix-history-3 c = search needs
-
-slice-aggregate-answer-bare-2 : tie.Need-slice-aggregate-answer-bare-2
-slice-aggregate-answer-bare-2 c = sym (length-take-le _ _ (omega arith))
-
-answer-bare-requires : tie.Need-answer-bare-requires
-answer-bare-requires c κs = search needs
+answer-for-requires : tie.Need-answer-for-requires
+answer-for-requires c κs = search needs
 
 returns-3 : tie.Need-returns-3
 returns-3 c = search needs
-
-returns-4 : tie.Need-returns-4
-returns-4 c = search needs
-
-returns-5 : tie.Need-returns-5
-returns-5 c = search needs
 
 pub answer-machine-spec : {M : Type 1} → statement M
 answer-machine-spec =
@@ -129,20 +93,8 @@ answer-machine-spec =
     slice-aggregate-load-numbers
     load-numbers-requires
     array-share-prefix-inputs
-    slice-aggregate-answer-run
+    slice-aggregate-answer-for
     array-borrow-prefix-history
-    slice-aggregate-answer-run-2
-    answer-run-requires
-    array-share-prefix-inputs-2
-    slice-aggregate-answer-steps
-    array-borrow-prefix-history-2
-    slice-aggregate-answer-steps-2
-    answer-steps-requires
-    array-share-prefix-inputs-3
-    slice-aggregate-answer-bare
-    array-borrow-prefix-history-3
-    slice-aggregate-answer-bare-2
-    answer-bare-requires
-    returns-3
-    returns-4
-    returns-5)
+    slice-aggregate-answer-for-2
+    answer-for-requires
+    returns-3)

@@ -7,20 +7,20 @@ use Rattle.cases_run.proofs.runs.answer_steps.Statement.{statement}
 use Rattle.cases_run.proofs.runs.answer_steps.Tie as tie
 
 abbrev Inv-loop : tie.InvT-loop
-Inv-loop rule script inputs count history₀ m₀ i₀ t9 t10 t11 t12 t13 t14 t15 t16 history m i =
+Inv-loop rule script rule64 script64 is-wide inputs count history₀ m₀ i₀ t12 t13 t14 t15 t16 t17 t18 t19 history m i =
     (i ≤ count) × (length history ≡ length history₀) × (length (m .registers) ≡ 16)
 
 abbrev μ-loop : tie.MeasureT-loop
-μ-loop rule script inputs count history₀ m₀ i₀ t9 t10 t11 t12 t13 t14 t15 t16 history m i = count - i
+μ-loop rule script rule64 script64 is-wide inputs count history₀ m₀ i₀ t12 t13 t14 t15 t16 t17 t18 t19 history m i = count - i
 
-fresh-requires : tie.Need-fresh-requires Inv-loop μ-loop
-fresh-requires c κs = search needs
+fresh-in-requires : tie.Need-fresh-in-requires Inv-loop μ-loop
+fresh-in-requires c κs = search needs
 
 loop-holds : tie.Need-loop-holds Inv-loop μ-loop
 loop-holds c = search needs
 
-step-requires : tie.Need-step-requires Inv-loop μ-loop
-step-requires c κs = search needs
+step-in-requires : tie.Need-step-in-requires Inv-loop μ-loop
+step-in-requires c κs = search needs
 
 add-i : tie.Need-add-i Inv-loop μ-loop
 add-i c = search needs
@@ -94,9 +94,9 @@ answer-steps-spec =
     (tie.spec
     Inv-loop
     μ-loop
-    fresh-requires
+    fresh-in-requires
     loop-holds
-    step-requires
+    step-in-requires
     add-i
     loop-less
     loop-again

@@ -1,15 +1,14 @@
 -- `cases_run::runs::print_bits` is safe and ends; the measure is what is left to go through. Assumes nothing.
 use borrow.Author.Needs.{needs}
 use Prim.Native.Nat.{_-_, _≤_}
-use lib.ListN.{length}
 use Rattle.cases_run.proofs.runs.print_bits.Statement.{statement}
 use Rattle.cases_run.proofs.runs.print_bits.Tie as tie
 
 abbrev Inv-loop : tie.InvT-loop
-Inv-loop name rule work bits k₀ t5 k = k ≤ length rule
+Inv-loop name rule rule64 is-wide work bits k₀ t8 k = k ≤ 64
 
 abbrev μ-loop : tie.MeasureT-loop
-μ-loop name rule work bits k₀ t5 k = length rule - k
+μ-loop name rule rule64 is-wide work bits k₀ t8 k = 64 - k
 
 say-requires : tie.Need-say-requires Inv-loop μ-loop
 say-requires c κs = search needs
