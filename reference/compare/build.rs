@@ -1,4 +1,4 @@
-//! Links the proved code, `libguard.a`. GUARD_LIB names its folder; without it, it is where `rt staticlib guard` writes it.
+//! Links the proved code, `libguard.a` and `libguard64.a`. GUARD_LIB names their folder; without it, it is where `rt staticlib` writes them.
 use std::env;
 use std::path::PathBuf;
 
@@ -8,7 +8,16 @@ fn main() {
         let here = PathBuf::from(env::var("CARGO_MANIFEST_DIR").unwrap());
         here.join("../../target/staticlib")
     });
-    println!("cargo:rerun-if-changed={}", folder.join("libguard.a").display());
     println!("cargo:rustc-link-search=native={}", folder.display());
+    println!("cargo:rerun-if-changed={}", folder.join("libguard.a").display());
     println!("cargo:rustc-link-lib=static=guard");
+    // A folder from before 2026-07, which the benchmark is held against, has no library for the second form.
+    println!("cargo:rustc-check-cfg=cfg(first_form_alone)");
+    let second = folder.join("libguard64.a");
+    println!("cargo:rerun-if-changed={}", second.display());
+    if second.exists() {
+        println!("cargo:rustc-link-lib=static=guard64");
+    } else {
+        println!("cargo:rustc-cfg=first_form_alone");
+    }
 }

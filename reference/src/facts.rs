@@ -81,7 +81,7 @@ pub enum Fault {
     UnledEmpty,
     /// It starts without C.
     StartsWithoutC,
-    /// 13 is put before 19.
+    /// 13 is put before 19, and where a script moves before all questions.
     OutputFirst,
     /// The count of facts leaves out C.
     CountsNoC,
@@ -99,6 +99,22 @@ pub enum Fault {
     DecidedAnew,
     /// The formula counts nothing for mentions of a past node after the first, and the weaver's answer and questions 12 and 13 go by it.
     LaterMentionsFree,
+    /// The zero bits of a node may be set.
+    ZerosPass,
+    /// What stands below an instruction may be set.
+    BelowPasses,
+    /// Of an operand's number five bits are read in both forms.
+    FiveBits,
+    /// Of a word of facts 32 bits are read in both forms.
+    HalfOfFacts,
+    /// 18 refuses more than 32 nodes in both forms.
+    TextOfHalf,
+    /// A move puts 20 before questions 1 to 4.
+    TwentyFirst,
+    /// A script's move does not put 8.
+    MovesUnfit,
+    /// A script's move puts 9 to 11 too.
+    MovesAcceptedAlone,
 }
 
 thread_local! {

@@ -30,12 +30,13 @@ const fn zeros<W: Word>() -> u32 {
 impl Node {
     pub fn decode_in<W: Word>(word: W) -> Node {
         let mut fields = Fields::of(word);
+        let operand = if planted(Fault::FiveBits) { 31 } else { 63 };
         Node {
             kind: fields.take(KIND) as u8,
             register: fields.take(REGISTER) as u8,
             constant: fields.take(CONSTANT) as u16,
-            left: fields.take(W::OPERAND) as u8,
-            right: fields.take(W::OPERAND) as u8,
+            left: fields.take(W::OPERAND) as u8 & operand,
+            right: fields.take(W::OPERAND) as u8 & operand,
             zero: fields.take(zeros::<W>()) as u32,
         }
     }
@@ -90,7 +91,7 @@ impl Node {
     fn unused_fields_zero(&self) -> bool {
         let test = self.register == 0 && self.constant == 0;
         let (left, right) = (self.left == 0, self.right == 0);
-        self.zero == 0
+        (self.zero == 0 || planted(Fault::ZerosPass))
             && match self.kind {
                 0 => test && left && right,
                 1 | 2 | 6 => left && right,
@@ -121,23 +122,25 @@ fn past(nodes: &[Node], i: usize) -> bool {
     nodes.get(i).is_some_and(Node::is_past)
 }
 
-/// A node that is an operand twice or more and that is no past node.
-fn shared(nodes: &[Node], i: usize) -> bool {
+/// A node that is an operand twice or more is shared if it is no past node.
+fn shared(nodes: &[Node], i: usize, mentions: usize) -> bool {
     let least = if planted(Fault::OnceIsShared) { 1 } else { 2 };
-    !past(nodes, i) && mentions(nodes, i) >= least
+    !past(nodes, i) && mentions >= least
 }
 
 /// Whether a line's opcode 9 to 12 may name node i of these nodes: kept bits are asked and set of past nodes (10, 12), work bits of past
 /// and of shared ones (9, 11).
 pub fn may_name(nodes: &[Node], op: u8, i: usize) -> bool {
     let work = matches!(op, 9 | 11) || op == 10 && planted(Fault::TenNamesShared);
-    past(nodes, i) || work && shared(nodes, i)
+    past(nodes, i) || work && shared(nodes, i, mentions(nodes, i))
 }
 
 /// A rule that has passed questions 1 to 4.
 #[derive(Clone, Debug, PartialEq, Eq)]
 pub struct Rule {
     pub nodes: Vec<Node>,
+    /// How many times each node is an operand: it is asked so often that it is counted once.
+    uses: Vec<usize>,
 }
 
 /// Questions 1 to 4.
@@ -146,7 +149,9 @@ pub fn check_rule_in<W: Word>(words: &[W]) -> Result<Rule, No> {
     if words.is_empty() || words.len() > W::MOST_NODES {
         return no(1, 0);
     }
-    let rule = Rule { nodes: words.iter().map(|&w| Node::decode_in(w)).collect() };
+    let nodes: Vec<Node> = words.iter().map(|&w| Node::decode_in(w)).collect();
+    let uses = (0..nodes.len()).map(|i| mentions(&nodes, i)).collect();
+    let rule = Rule { nodes, uses };
     // 2. Are kinds 0 to 6, unused fields zero, and the other register of a kind 6 at most 15?
     for (i, n) in rule.nodes.iter().enumerate() {
         if n.kind > 6 || !n.unused_fields_zero() || n.kind == 6 && n.constant > 15 {
@@ -202,7 +207,7 @@ impl Rule {
 
     /// How many times node i is an operand, by operand places: `implies 0 0` uses node 0 twice.
     pub fn uses(&self, i: usize) -> usize {
-        mentions(&self.nodes, i)
+        self.uses.get(i).map_or(0, |&uses| uses)
     }
 
     pub fn is_past(&self, i: usize) -> bool {
@@ -211,7 +216,7 @@ impl Rule {
 
     /// Each shared node has a work bit and the fact W, as each past node has: here the work bit is its value now.
     pub fn is_shared(&self, i: usize) -> bool {
-        shared(&self.nodes, i)
+        shared(&self.nodes, i, self.uses(i))
     }
 
     fn nodes_that(&self, are: impl Fn(usize) -> bool) -> Vec<usize> {

@@ -1,5 +1,5 @@
 //! Lines of a script and questions 5 to 11.
-use crate::facts::{all_facts, close, first_facts, pass, Facts, T};
+use crate::facts::{all_facts, close, first_facts, pass, planted, Facts, Fault, T};
 use crate::form::Word;
 use crate::rule::{check_rule_in, may_name, Node, Rule};
 use crate::{no, No};
@@ -34,7 +34,8 @@ impl Line {
     /// Eight words: the instruction and seven sets of facts.
     pub fn decode_annotated_in<W: Word>(words: &[W]) -> Line {
         let first = words[0].at_top();
-        let facts = Facts { set: std::array::from_fn(|k| words[1 + k].at_top()) };
+        let read = if planted(Fault::HalfOfFacts) { !0 << 32 } else { !0 };
+        let facts = Facts { set: std::array::from_fn(|k| words[1 + k].at_top() & read) };
         Line { zero: first as u32, facts, ..Line::decode((first >> 32) as u32) }
     }
 
@@ -81,7 +82,7 @@ pub fn fields_allowed(nodes: &[Node], opcode_allowed: fn(u8) -> bool, l: &Line) 
     let (r0, c0, t0) = (l.r == 0, l.c == 0, l.target == 0);
     let named = || may_name(nodes, l.op, l.c as usize);
     opcode_allowed(l.op)
-        && l.zero == 0
+        && (l.zero == 0 || planted(Fault::BelowPasses))
         && match l.op {
             0 | 8 => r0 && c0 && t0,
             1 | 3 | 14 => t0,

@@ -282,7 +282,8 @@ pub fn read_formula(text: &[u8]) -> Result<Formula, No> {
 /// Questions 16, 17, 18 and 13, then the nodes, to the start of `out`; how many there are.
 pub fn read_text_in<W: Word>(text: &[u8], out: &mut [W]) -> Result<usize, No> {
     let mut nodes = vec![];
-    write(read_formula_within(text, W::MOST_NODES)?, &mut nodes);
+    let most = if planted(Fault::TextOfHalf) { MOST_NODES } else { W::MOST_NODES };
+    write(read_formula_within(text, most)?, &mut nodes);
     let words: Vec<W> = nodes.iter().map(Node::encode_in).collect();
     hand_over(&words, out)?;
     Ok(nodes.len())

@@ -1,5 +1,6 @@
 //! The peers' answers to random requests are the proved code's: what is timed is the same work.
 use crate::peers::facts::find_facts;
+use crate::peers::form::Set;
 use crate::peers::judge::{many_at_once, one_at_a_time};
 use crate::peers::machine::{run, step};
 use crate::peers::rule::Rule;
@@ -7,32 +8,35 @@ use crate::peers::script::{check_code, check_script, BARE};
 use crate::peers::text::read_text;
 use crate::peers::weave::weave;
 use crate::peers::No;
-use compare::proved;
-use compare::requests::{request, Request};
+use compare::face::Face;
+use compare::proved::{library, BOTH_FORMS};
+use compare::request::Request;
+use compare::requests::request;
 
 fn numbers<X>(answer: Result<X, No>) -> (u32, u64) {
     answer.map_or_else(|no| (no.number, no.place as u64), |_| (0, 0))
 }
 
-fn agree_on(request: Request) {
+fn agree_on<W: Set>(request: Request<W>) {
+    let proved = library();
     match request {
         Request::Rule { rule, .. } => {
             let mut p = [0];
-            assert_eq!((proved::rule(&rule, &mut p), p[0]), numbers(Rule::read(&rule)));
+            assert_eq!((proved.rule(&rule, &mut p), p[0]), numbers(Rule::read(&rule)));
         }
         Request::Bare { rule, script, .. } => {
             let mut p = [0];
             let peer = Rule::read(&rule).and_then(|r| check_code(&r, &script, 1, BARE));
-            assert_eq!((proved::bare(&rule, &script, &mut p), p[0]), numbers(peer));
+            assert_eq!((proved.bare(&rule, &script, &mut p), p[0]), numbers(peer));
         }
         Request::Script { rule, script, .. } => {
             let mut p = [0];
-            assert_eq!((proved::script(&rule, &script, &mut p), p[0]), numbers(check_script(&rule, &script)));
+            assert_eq!((proved.script(&rule, &script, &mut p), p[0]), numbers(check_script(&rule, &script)));
         }
         Request::Weave { rule, bare, mut out, .. } => {
             let mut p = [0; 2];
             let mut peer_out = out.clone();
-            let result = proved::weave(&rule, &bare, &mut out, &mut p);
+            let result = proved.weave(&rule, &bare, &mut out, &mut p);
             let peer = weave(&rule, &bare, &mut peer_out);
             assert_eq!(p[1], *peer.as_ref().unwrap_or(&0) as u64);
             assert!((result, p[0]) == numbers(peer) && out == peer_out);
@@ -40,15 +44,15 @@ fn agree_on(request: Request) {
         Request::Facts { rule, instructions, mut out, .. } => {
             let mut p = [0; 2];
             let mut peer_out = out.clone();
-            let result = proved::facts(&rule, &instructions, &mut out, &mut p);
+            let result = proved.facts(&rule, &instructions, &mut out, &mut p);
             let peer = find_facts(&rule, &instructions, &mut peer_out);
             assert_eq!(p[1], *peer.as_ref().unwrap_or(&0) as u64);
             assert!((result, p[0]) == numbers(peer) && out == peer_out);
         }
         Request::Judge { rule, history, .. } => {
             let mut p = [0; 4];
-            let result = proved::judge(&rule, &history, &mut p);
-            for judge in [one_at_a_time, many_at_once] {
+            let result = proved.judge(&rule, &history, &mut p);
+            for judge in [one_at_a_time::<W>, many_at_once] {
                 let peer = judge(&rule, &history);
                 let index = peer.as_ref().map_or(None, |&i| i);
                 assert_eq!(index, (p[1] == 1).then_some(p[2] as usize));
@@ -58,7 +62,7 @@ fn agree_on(request: Request) {
         Request::Run { rule, script, inputs, budget, mut history, .. } => {
             let mut p = [0; 22];
             let mut peer_history = history.clone();
-            let result = proved::run(&rule, &script, &inputs, budget, &mut history, &mut p);
+            let result = proved.run(&rule, &script, &inputs, budget, &mut history, &mut p);
             let peer = run(&rule, &script, &inputs, budget, &mut peer_history);
             let mut q = [0; 22];
             if let Ok(t) = &peer {
@@ -72,7 +76,7 @@ fn agree_on(request: Request) {
         Request::Steps { rule, script, inputs, mut history, mut state, count } => {
             let (mut peer_history, mut peer_state) = (history.clone(), state.clone());
             for _ in 0..count {
-                let result = proved::step(&rule, &script, &inputs, &mut history, &mut state);
+                let result = proved.step(&rule, &script, &inputs, &mut history, &mut state);
                 assert_eq!(result, step(&rule, &script, &inputs, &mut peer_history, &mut peer_state));
                 assert!(state == peer_state && history == peer_history);
             }
@@ -80,17 +84,22 @@ fn agree_on(request: Request) {
         Request::Text { text, mut out, .. } => {
             let mut p = [0; 2];
             let mut peer_out = out.clone();
-            let result = proved::text(&text, &mut out, &mut p);
+            let result = proved.text(&text, &mut out, &mut p);
             let peer = read_text(&text, &mut peer_out);
             assert_eq!(p[1], *peer.as_ref().unwrap_or(&0) as u64);
             assert!((result, p[0]) == numbers(peer) && out == peer_out);
         }
-        Request::Fresh { .. } => {}
+        // without a peer
+        Request::Fresh { .. } | Request::MoveRule { .. } | Request::MoveScript { .. } => {}
     }
 }
 
+/// So many requests in the first form, and a fifth as many in the second if the library has it.
 pub fn agree(requests: u64) {
-    (0..requests).for_each(|n| agree_on(request(5, n)));
+    (0..requests).for_each(|n| agree_on::<u32>(request(5, n)));
+    if BOTH_FORMS {
+        (0..requests / 5).for_each(|n| agree_on::<u64>(request(5, n)));
+    }
 }
 
 #[test]

@@ -1,7 +1,8 @@
 //! The rules and histories that the judges are timed on.
+use reference::form::Word;
 use reference::judge::{first_false_kept, first_priors, next_priors, values_now};
 use reference::random::Rng;
-use reference::rule::{check_rule, Rule};
+use reference::rule::{check_rule_in, Node, Rule};
 use reference::State;
 
 pub const R1: &[u32] = &[0x2200_0800, 0x2400_0800, 0x8000_0002];
@@ -29,7 +30,35 @@ pub const R6: &[u32] = &[
     0x6000_03e2, 0x6000_0484, 0x4e03_2000, 0x8000_0068, 0xa000_0540, 0x6000_05aa, 0x6000_002e, 0x6000_0604, 0x6000_04f2,
     0x6000_02f4, 0x6000_06c4, 0x8000_0700,
 ];
-pub const RULES: [(&str, &[u32]); 6] = [("R1", R1), ("R2", R2), ("R3", R3), ("R4", R4), ("R5", R5), ("R6", R6)];
+
+/// A rule and its name. It stays for as long as there are rows.
+pub type Named<W> = (&'static str, &'static [W]);
+
+pub const RULES: [Named<u32>; 6] = [("R1", R1), ("R2", R2), ("R3", R3), ("R4", R4), ("R5", R5), ("R6", R6)];
+
+fn decoded(words: &[u32]) -> Vec<Node> {
+    words.iter().map(|&word| Node::decode_in(word)).collect()
+}
+
+fn second_form(nodes: &[Node]) -> &'static [u64] {
+    nodes.iter().map(Node::encode_in).collect::<Vec<_>>().leak()
+}
+
+/// R1 and R4 in the second form, and R7, which has 64 nodes: R4 implies that R6 was true at the last presentation.
+pub fn rules_in_second_form() -> [Named<u64>; 3] {
+    let mut nodes = decoded(R4);
+    nodes.extend(decoded(R6).iter().map(|node| match node.kind {
+        3 | 4 => Node { left: node.left + 32, right: node.right + 32, ..*node },
+        5 => Node { left: node.left + 32, ..*node },
+        _ => *node,
+    }));
+    nodes.extend([Node::new(5, 0, 0, 61, 0), Node::new(3, 0, 0, 31, 62)]);
+    [
+        ("R1, second form", second_form(&decoded(R1))),
+        ("R4, second form", second_form(&decoded(R4))),
+        ("R7, second form", second_form(&nodes)),
+    ]
+}
 
 /// Numbers about the constants of a register's tests, 0 or 1 where it is compared with another register, so that each test is true
 /// about half of the time.
@@ -59,8 +88,8 @@ fn found(g: &mut Rng, rule: &Rule, prior: &[bool], value: bool) -> Option<(State
 }
 
 /// Random states at all of which but the last the rule is true. A state is taken where some next one goes on.
-pub fn random_history(words: &[u32], states: usize) -> Vec<u16> {
-    let rule = check_rule(words).expect("a rule");
+pub fn random_history<W: Word>(words: &[W], states: usize) -> Vec<u16> {
+    let rule = check_rule_in(words).expect("a rule");
     let mut g = Rng(4);
     let mut prior = first_priors(&rule);
     let mut history = vec![];
@@ -78,8 +107,8 @@ pub fn random_history(words: &[u32], states: usize) -> Vec<u16> {
 }
 
 /// One state over and over, at which the rule stays true: every branch of a judge goes the way it went before.
-pub fn steady_history(words: &[u32], states: usize) -> Vec<u16> {
-    let rule = check_rule(words).expect("a rule");
+pub fn steady_history<W: Word>(words: &[W], states: usize) -> Vec<u16> {
+    let rule = check_rule_in(words).expect("a rule");
     let mut g = Rng(5);
     loop {
         let state = random_state(&mut g, &rule);

@@ -4,30 +4,32 @@ mod histories;
 mod measure;
 mod peers;
 
-use compare::proved;
-use histories::{random_history, steady_history, R1, R6, RULES};
+use compare::face::Face;
+use compare::proved::{library, BOTH_FORMS};
+use histories::{random_history, rules_in_second_form, steady_history, Named, RULES};
 use measure::{measure, Row, Table};
+use peers::form::Set;
 use peers::judge::{many_at_once, one_at_a_time};
 use reference::random::Rng;
-use reference::rule::check_rule;
+use reference::rule::{check_rule_in, Node};
 use std::hint::black_box;
 
 const STATES: usize = 16_384;
 
-fn judge_rows() -> Vec<Row> {
+fn judge_rows<W: Set>(rules: &[Named<W>]) -> Vec<Row> {
     let mut rows = vec![];
-    for (name, rule) in RULES {
+    for &(name, rule) in rules {
         let random = (random_history(rule, STATES), [0, 1, STATES as u64 - 1, 0], Some(STATES - 1));
         let steady = (steady_history(rule, STATES), [0, 0, 0, STATES as u64], None);
         for (kind, (history, numbers, index)) in [("random", random), ("steady", steady)] {
             let mut n = [0; 4];
-            assert_eq!((proved::judge(rule, &history, &mut n), n), (0, numbers));
+            assert_eq!((library().judge(rule, &history, &mut n), n), (0, numbers));
             let mut calls: Vec<Box<dyn FnMut()>> = vec![];
             let h = history.clone();
             calls.push(Box::new(move || {
-                black_box(proved::judge(black_box(rule), black_box(&h), &mut n));
+                black_box(library().judge(black_box(rule), black_box(&h), &mut n));
             }));
-            for judge in [one_at_a_time, many_at_once] {
+            for judge in [one_at_a_time::<W>, many_at_once] {
                 assert!(judge(rule, &history).is_ok_and(|i| i == index));
                 let h = history.clone();
                 calls.push(Box::new(move || {
@@ -61,9 +63,9 @@ fn bare_for(block: usize, lines: usize) -> Vec<u32> {
     words
 }
 
-fn script_rows() -> Vec<Row> {
+fn script_rows<W: Set>(rules: &[Named<W>], line_counts: &[usize]) -> Vec<Row> {
     let mut rows = vec![];
-    for (name, rule) in [RULES[0], RULES[3], RULES[5]] {
+    for &(name, rule) in rules {
         let nodes = rule.len();
         let mut n = [0; 1];
         rows.push(Row::new(
@@ -72,25 +74,25 @@ fn script_rows() -> Vec<Row> {
             1,
             vec![
                 Box::new(move || {
-                    black_box(proved::rule(black_box(rule), &mut n));
+                    black_box(library().rule(black_box(rule), &mut n));
                 }),
                 Box::new(move || {
                     black_box(peers::rule::Rule::read(black_box(rule)).is_ok());
                 }),
             ],
         ));
-        let block = check_rule(rule).expect("a rule").block_lines();
-        for lines in [16, 128, 1024] {
+        let block = check_rule_in(rule).expect("a rule").block_lines();
+        for &lines in line_counts {
             if lines < block + 3 {
                 continue;
             }
             let bare = bare_for(block, lines);
             let presents = bare.iter().filter(|&&w| w >> 28 == 8).count();
             let mut n = [0; 2];
-            let (mut out, mut peer_out) = (vec![0; 8 * lines], vec![0; 8 * lines]);
-            assert_eq!((proved::weave(rule, &bare, &mut out, &mut n), n), (0, [0, lines as u64]));
+            let (mut out, mut peer_out) = (vec![W::default(); 8 * lines], vec![W::default(); 8 * lines]);
+            assert_eq!((library().weave(rule, &bare, &mut out, &mut n), n), (0, [0, lines as u64]));
             assert!(peers::weave::weave(rule, &bare, &mut peer_out).is_ok_and(|n| n == lines) && out == peer_out);
-            assert_eq!(proved::script(rule, &out, &mut n), 0);
+            assert_eq!(library().script(rule, &out, &mut n), 0);
             assert!(peers::script::check_script(rule, &out).is_ok());
             let (script, peer_script, peer_bare) = (out.clone(), out.clone(), bare.clone());
             rows.push(Row::new(
@@ -99,7 +101,7 @@ fn script_rows() -> Vec<Row> {
                 lines,
                 vec![
                     Box::new(move || {
-                        black_box(proved::script(black_box(rule), black_box(&script), &mut n));
+                        black_box(library().script(black_box(rule), black_box(&script), &mut n));
                     }),
                     Box::new(move || {
                         black_box(peers::script::check_script(black_box(rule), black_box(&peer_script)).is_ok());
@@ -112,7 +114,7 @@ fn script_rows() -> Vec<Row> {
                 lines,
                 vec![
                     Box::new(move || {
-                        black_box(proved::weave(black_box(rule), black_box(&bare), &mut out, &mut n));
+                        black_box(library().weave(black_box(rule), black_box(&bare), &mut out, &mut n));
                     }),
                     Box::new(move || {
                         black_box(peers::weave::weave(black_box(rule), black_box(&peer_bare), &mut peer_out).is_ok());
@@ -138,48 +140,44 @@ fn masked_tone() -> Vec<u32> {
     [vec![instruction(4, 3, 0, 0)], tone()].concat()
 }
 
-fn woven(rule: &[u32], bare: &[u32]) -> Vec<u32> {
-    let mut out = vec![0; 8 * 1024];
+fn woven<W: Set>(rule: &[W], bare: &[u32]) -> Vec<W> {
+    let mut out = vec![W::default(); 8 * 1024];
     let mut n = [0; 2];
-    assert_eq!(proved::weave(rule, bare, &mut out, &mut n), 0);
+    assert_eq!(library().weave(rule, bare, &mut out, &mut n), 0);
     out.truncate(8 * n[1] as usize);
     out
 }
 
-/// Runs long enough that the questions before them take no time that counts.
-fn run_rows() -> Vec<Row> {
-    const BUDGET: u64 = 1_000_000;
+/// The instructions of a woven script.
+fn stripped<W: Set>(script: &[W]) -> Vec<u32> {
+    script.iter().step_by(8).map(|word| word.instruction()).collect()
+}
+
+/// Bare scripts that do not read their inputs.
+fn counting_and_presenting() -> [Vec<u32>; 3] {
     let i = instruction;
     // counts, with tests and copies, and presents nothing
-    let count = vec![
-        i(3, 1, 1, 0),
-        i(5, 1, 16_383, 4),
-        i(6, 2, 7, 0),
-        i(7, 0, 0, 0),
-        i(1, 1, 0, 0),
-        i(3, 2, 1, 0),
-        i(2, 3, 2, 0),
-        i(7, 0, 0, 0),
-    ];
+    let count =
+        vec![i(3, 1, 1, 0), i(5, 1, 16_383, 4), i(6, 2, 7, 0), i(7, 0, 0, 0), i(1, 1, 0, 0), i(3, 2, 1, 0), i(2, 3, 2, 0), i(7, 0, 0, 0)];
     // a level up by 5 to the one end and down by 10 to the other, over and over
     let sweep = vec![i(3, 1, 5, 0), i(5, 1, 16_383, 3), i(7, 0, 0, 0), i(14, 1, 10, 0), i(5, 1, 0, 0), i(7, 0, 0, 3)];
     // presents all the time: register 1 = 1 since register 2 = 1
     let present = vec![i(1, 1, 1, 0), i(1, 2, 1, 0), i(8, 0, 0, 0), i(1, 2, 0, 0), i(8, 0, 0, 0), i(7, 0, 0, 1)];
+    [count, sweep, present]
+}
+
+/// Runs long enough that the questions before them take no time that counts: what each does, its rule and its bare script.
+fn run_rows<W: Set>(runs: Vec<(&str, &'static [W], Vec<u32>)>) -> Vec<Row> {
+    const BUDGET: u64 = 1_000_000;
     let mut g = Rng(9);
     let inputs: Vec<u16> = (0..200_000).map(|_| g.below(2) as u16).collect();
     let mut rows = vec![];
-    for (name, rule, bare) in [
-        ("counts", R1, count),
-        ("raises and lowers", R1, sweep),
-        ("presents", R1, present),
-        ("reads and presents", R1, tone()),
-        ("reads and presents, with shared nodes (R6)", R6, masked_tone()),
-    ] {
+    for (name, rule, bare) in runs {
         let script = woven(rule, &bare);
         let mut n = [0; 22];
         let mut history = vec![0; 16 * 200_000];
         let mut peer_history = history.clone();
-        assert_eq!(proved::run(rule, &script, &inputs, BUDGET, &mut history, &mut n), 0);
+        assert_eq!(library().run(rule, &script, &inputs, BUDGET, &mut history, &mut n), 0);
         let t = peers::machine::run(rule, &script, &inputs, BUDGET, &mut peer_history).ok().expect("an accepted script");
         assert_eq!(n[1..6], [t.stop, t.line as u64, t.steps, t.presentations as u64, t.read as u64]);
         assert!(n[6..] == t.registers.map(u64::from) && history == peer_history);
@@ -191,11 +189,10 @@ fn run_rows() -> Vec<Row> {
             steps,
             vec![
                 Box::new(move || {
-                    black_box(proved::run(rule, black_box(&script), black_box(&inputs), BUDGET, &mut history, &mut n));
+                    black_box(library().run(rule, black_box(&script), black_box(&inputs), BUDGET, &mut history, &mut n));
                 }),
                 Box::new(move || {
-                    let peer =
-                        peers::machine::run(rule, black_box(&peer_script), black_box(&peer_inputs), BUDGET, &mut peer_history);
+                    let peer = peers::machine::run(rule, black_box(&peer_script), black_box(&peer_inputs), BUDGET, &mut peer_history);
                     black_box(peer.is_ok());
                 }),
             ],
@@ -205,10 +202,11 @@ fn run_rows() -> Vec<Row> {
 }
 
 /// Steps asked for one by one, the state in lent memory.
-fn step_row(name: &str, rule: &'static [u32], bare: &[u32]) -> Row {
+fn step_row<W: Set>(name: &str, rule: &'static [W], bare: &[u32]) -> Row {
     const STEPS: usize = 20_000;
-    type Step = fn(&[u32], &[u32], &[u16], &mut [u16], &mut [u64]) -> u32;
-    let calls = [proved::step as Step, peers::machine::step]
+    type Step<W> = fn(&[W], &[W], &[u16], &mut [u16], &mut [u64]) -> u32;
+    let proved: Step<W> = |rule, script, inputs, history, state| library().step(rule, script, inputs, history, state);
+    let calls = [proved, peers::machine::step]
         .into_iter()
         .map(|step| {
             let script = woven(rule, bare);
@@ -216,7 +214,7 @@ fn step_row(name: &str, rule: &'static [u32], bare: &[u32]) -> Row {
             let mut history = vec![0; 16 * STEPS];
             Box::new(move || {
                 let mut state = [0; 21];
-                proved::fresh(rule, &mut state);
+                library().fresh(rule, &mut state);
                 for _ in 0..STEPS {
                     black_box(step(rule, &script, &inputs, &mut history, &mut state));
                 }
@@ -226,38 +224,32 @@ fn step_row(name: &str, rule: &'static [u32], bare: &[u32]) -> Row {
     Row::new(format!("step that {name}, {STEPS} calls"), "step", STEPS, calls)
 }
 
+const SHORT_TEXT: &str = "r1=1 since r2=1 and not r3<40";
 /// A rule of 32 nodes, as it is typed.
 const FULL_TEXT: &str = "r1=1 since r2=1 and not r3<40 or prev(r4=4 implies once r5<50) implies r6=6 since wprev wprev r7=7";
 
-fn text_rows() -> Vec<Row> {
-    let nested = format!("{}r1=1{}", "(".repeat(10_000), ")".repeat(10_000));
-    let digits = format!("r1={}", "9".repeat(1_000));
-    let spoiled = format!("{FULL_TEXT})");
+/// What a text is, the text, and what is answered: the number handed back, the place and how many nodes.
+type Typed<'a> = (&'a str, &'a str, (u32, [u64; 2]));
+
+fn text_rows<W: Set>(form: &str, texts: &[Typed]) -> Vec<Row> {
     let mut rows = vec![];
-    // what is handed back, the place and how many nodes
-    for (name, text, answer) in [
-        ("11 nodes", "r1=1 since r2=1 and not r3<40", (0, [0, 11])),
-        ("32 nodes", FULL_TEXT, (0, [0, 32])),
-        ("one node in 10000 brackets", &nested, (0, [0, 1])),
-        ("a number of 1000 digits, refused (17)", &digits, (17, [3, 0])),
-        ("32 nodes, refused at the end (16)", &spoiled, (16, [FULL_TEXT.len() as u64, 0])),
-    ] {
+    for &(name, text, answer) in texts {
         let (text, peer_text) = (text.as_bytes().to_vec(), text.as_bytes().to_vec());
         let bytes = text.len();
-        let (mut out, mut peer_out, mut n) = ([0; 32], [0; 32], [0; 2]);
-        assert_eq!((proved::text(&text, &mut out, &mut n), n), answer);
+        let (mut out, mut peer_out, mut n) = ([W::default(); 64], [W::default(); 64], [0; 2]);
+        assert_eq!((library().text(&text, &mut out, &mut n), n), answer);
         let peer = match peers::text::read_text(&text, &mut peer_out) {
             Ok(count) => (0, [0, count as u64]),
             Err(no) => (no.number, [no.place as u64, 0]),
         };
         assert!(peer == answer && out == peer_out);
         rows.push(Row::new(
-            format!("read_text, {bytes} bytes, {name}"),
+            format!("read_text{form}, {bytes} bytes, {name}"),
             "byte",
             bytes,
             vec![
                 Box::new(move || {
-                    black_box(proved::text(black_box(&text), &mut out, &mut n));
+                    black_box(library().text(black_box(&text), &mut out, &mut n));
                 }),
                 Box::new(move || {
                     black_box(peers::text::read_text(black_box(&peer_text), &mut peer_out).is_ok());
@@ -268,10 +260,11 @@ fn text_rows() -> Vec<Row> {
     rows
 }
 
-/// "register 1 = 1" under a chain of 31 weak previouses: round a loop with a present, one fact after the other is lost.
-fn chain() -> Vec<u32> {
-    let weak_previous = |k: u32| 5 << 29 | (k - 1) << 6;
-    std::iter::once(0x2200_0800).chain((1..32).map(weak_previous)).collect()
+/// "register 1 = 1" under a chain of weak previouses, as many as the form allows: round a loop with a present, one fact after the other is
+/// lost.
+fn chain<W: Set>() -> Vec<W> {
+    let node = |i: usize| if i == 0 { Node::new(1, 1, 1, 0, 0) } else { Node::new(5, 0, 0, i as u8 - 1, 0) };
+    (0..W::MOST_NODES).map(|i| node(i).encode_in()).collect()
 }
 
 /// A present, and 1,022 gos that lead from it back to it, from the last line down; line 0 goes to the last line.
@@ -295,18 +288,18 @@ fn forwards() -> Vec<u32> {
 
 /// The loop laid backwards with a guard for the chain in it, which is accepted: the work bit of each weak previous becomes its operand's
 /// value, and the kept bit of the last is asked. Round the loop all but M is lost, of one node after the other.
-fn guarded_backwards() -> Vec<u32> {
+fn guarded_backwards(nodes: u32) -> Vec<u32> {
     let i = instruction;
     let mut words = vec![i(7, 0, 0, 1023)];
     // the test's value, then the kept bits of the operands
     words.extend([i(5, 1, 1, 4), i(9, 0, 1, 0), i(7, 0, 0, 5), i(9, 1, 1, 0)]);
-    for node in 2..32 {
+    for node in 2..nodes {
         let at = words.len() as u32;
         words.extend([i(10, 0, node - 1, at + 3), i(9, 0, node, 0), i(7, 0, 0, at + 4), i(9, 1, node, 0)]);
     }
     let at = words.len() as u32;
-    words.extend([i(10, 0, 31, at + 2), i(7, 0, 0, 1023), i(8, 0, 0, 0)]);
-    words.extend((1..32).map(|node| i(12, 0, node, 0)));
+    words.extend([i(10, 0, nodes - 1, at + 2), i(7, 0, 0, 1023), i(8, 0, 0, 0)]);
+    words.extend((1..nodes).map(|node| i(12, 0, node, 0)));
     words.extend([i(7, 0, 0, 1023), i(7, 0, 0, 1)]);
     while words.len() < 1024 {
         words.push(i(7, 0, 0, words.len() as u32 - 1));
@@ -314,27 +307,28 @@ fn guarded_backwards() -> Vec<u32> {
     words
 }
 
-fn facts_rows() -> Vec<Row> {
-    let mut asked: Vec<(String, Vec<u32>, Vec<u32>)> = vec![];
-    for (name, rule) in [RULES[0], RULES[3], RULES[5]] {
-        let block = check_rule(rule).expect("a rule").block_lines();
-        for lines in [128, 256, 512, 1024] {
-            if lines >= block + 3 {
-                let stripped = woven(rule, &bare_for(block, lines)).iter().step_by(8).copied().collect();
-                asked.push((format!("{name}, {} nodes, woven", rule.len()), rule.to_vec(), stripped));
-            }
+fn facts_rows<W: Set>(rules: &[Named<W>], line_counts: &[usize], form: &str) -> Vec<Row> {
+    let mut rows = vec![];
+    for &(name, rule) in rules {
+        let block = check_rule_in(rule).expect("a rule").block_lines();
+        for &lines in line_counts.iter().filter(|&&lines| lines >= block + 3) {
+            let instructions = stripped(&woven(rule, &bare_for(block, lines)));
+            rows.push(facts_row(&format!("{name}, {} nodes, woven", rule.len()), rule.to_vec(), instructions));
         }
     }
-    for (name, instructions) in [("forwards", forwards()), ("backwards", backwards()), ("backwards and guarded", guarded_backwards())] {
-        asked.push((format!("chain, 32 nodes, laid {name}"), chain(), instructions));
+    let nodes = W::MOST_NODES;
+    for (name, instructions) in
+        [("forwards", forwards()), ("backwards", backwards()), ("backwards and guarded", guarded_backwards(nodes as u32))]
+    {
+        rows.push(facts_row::<W>(&format!("chain{form}, {nodes} nodes, laid {name}"), chain(), instructions));
     }
-    asked.into_iter().map(|(name, rule, instructions)| facts_row(&name, rule, instructions)).collect()
+    rows
 }
 
-fn facts_row(name: &str, rule: Vec<u32>, instructions: Vec<u32>) -> Row {
+fn facts_row<W: Set>(name: &str, rule: Vec<W>, instructions: Vec<u32>) -> Row {
     let lines = instructions.len();
-    let (mut out, mut peer_out, mut n) = (vec![0; 8 * lines], vec![0; 8 * lines], [0; 2]);
-    let result = proved::facts(&rule, &instructions, &mut out, &mut n);
+    let (mut out, mut peer_out, mut n) = (vec![W::default(); 8 * lines], vec![W::default(); 8 * lines], [0; 2]);
+    let result = library().facts(&rule, &instructions, &mut out, &mut n);
     let peer = match peers::facts::find_facts(&rule, &instructions, &mut peer_out) {
         Ok(count) => (0, [0, count as u64]),
         Err(no) => (no.number, [no.place as u64, 0]),
@@ -348,7 +342,7 @@ fn facts_row(name: &str, rule: Vec<u32>, instructions: Vec<u32>) -> Row {
         lines,
         vec![
             Box::new(move || {
-                black_box(proved::facts(black_box(&rule), black_box(&instructions), &mut out, &mut n));
+                black_box(library().facts(black_box(&rule), black_box(&instructions), &mut out, &mut n));
             }),
             Box::new(move || {
                 black_box(peers::facts::find_facts(black_box(&peer_rule), black_box(&peer_instructions), &mut peer_out).is_ok());
@@ -357,15 +351,62 @@ fn facts_row(name: &str, rule: Vec<u32>, instructions: Vec<u32>) -> Row {
     )
 }
 
+/// The rows of the first form, but for the judge's.
+fn first_form() -> Vec<Row> {
+    let [r1, _, _, r4, _, r6] = RULES;
+    let mut rows = script_rows(&[r1, r4, r6], &[16, 128, 1024]);
+    rows.extend(facts_rows(&[r1, r4, r6], &[128, 256, 512, 1024], ""));
+    let (reads, shares) = ("reads and presents", "reads and presents, with shared nodes (R6)");
+    let [count, sweep, present] = counting_and_presenting();
+    rows.extend(run_rows(vec![
+        ("counts", r1.1, count),
+        ("raises and lowers", r1.1, sweep),
+        ("presents", r1.1, present),
+        (reads, r1.1, tone()),
+        (shares, r6.1, masked_tone()),
+    ]));
+    rows.push(step_row(reads, r1.1, &tone()));
+    rows.push(step_row(shares, r6.1, &masked_tone()));
+    let nested = format!("{}r1=1{}", "(".repeat(10_000), ")".repeat(10_000));
+    let digits = format!("r1={}", "9".repeat(1_000));
+    let spoiled = format!("{FULL_TEXT})");
+    rows.extend(text_rows::<u32>(
+        "",
+        &[
+            ("11 nodes", SHORT_TEXT, (0, [0, 11])),
+            ("32 nodes", FULL_TEXT, (0, [0, 32])),
+            ("one node in 10000 brackets", &nested, (0, [0, 1])),
+            ("a number of 1000 digits, refused (17)", &digits, (17, [3, 0])),
+            ("32 nodes, refused at the end (16)", &spoiled, (16, [FULL_TEXT.len() as u64, 0])),
+        ],
+    ));
+    rows
+}
+
+/// The rows of the second form, but for the judge's.
+fn second_form(rules: &[Named<u64>; 3]) -> Vec<Row> {
+    let [r1, _, r7] = *rules;
+    let mut rows = script_rows(rules, &[1024]);
+    rows.extend(facts_rows(rules, &[1024], ", second form"));
+    let (reads, long) = ("reads and presents, second form", "reads and presents, second form, with 64 nodes (R7)");
+    rows.extend(run_rows(vec![(reads, r1.1, tone()), (long, r7.1, masked_tone())]));
+    rows.push(step_row(reads, r1.1, &tone()));
+    rows.push(step_row(long, r7.1, &masked_tone()));
+    // an implies between the full text and one that is a node shorter
+    let longest = format!("({FULL_TEXT}) implies {}", FULL_TEXT.replacen("wprev ", "", 1));
+    rows.extend(text_rows::<u64>(", second form", &[("11 nodes", SHORT_TEXT, (0, [0, 11])), ("64 nodes", &longest, (0, [0, 64]))]));
+    rows
+}
+
 fn main() {
     agree::agree(20_000);
-    let mut rows = script_rows();
-    rows.extend(facts_rows());
-    rows.extend(run_rows());
-    rows.push(step_row("reads and presents", R1, &tone()));
-    rows.push(step_row("reads and presents, with shared nodes (R6)", R6, &masked_tone()));
-    rows.extend(text_rows());
-    let mut tables = [Table { peers: &["one at a time", "64 at once"], rows: judge_rows() }, Table { peers: &["peer"], rows }];
+    let (mut judges, mut others) = (judge_rows(&RULES), first_form());
+    if BOTH_FORMS {
+        let rules = rules_in_second_form();
+        judges.extend(judge_rows(&rules));
+        others.extend(second_form(&rules));
+    }
+    let mut tables = [Table { peers: &["one at a time", "64 at once"], rows: judges }, Table { peers: &["peer"], rows: others }];
     measure(&mut tables);
     tables.iter().for_each(Table::print);
 }

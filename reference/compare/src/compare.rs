@@ -1,17 +1,20 @@
-//! Requests put to both, and every number of every answer and of every lent slice held side by side.
-use crate::requests::{request, Request};
-use crate::{faced, proved};
+//! Requests put to both, and every number of every answer and of every lent slice held side by side; and the two stored forms held to each
+//! other.
+use crate::face::Face;
+use crate::faced::Reference;
+use crate::proved::{library, Form};
+use crate::request::Request;
+use crate::requests::{moving, request};
 use std::collections::BTreeMap;
-use std::env;
-use std::fmt::Debug;
-use std::sync::OnceLock;
 
-/// What was met: how many calls of each function handed back each number, and how the runs stopped.
+/// What was met, by the functions' names: how many calls handed back each number, how the runs stopped, and how many calls were answered
+/// alike in both forms.
 #[derive(Default, Debug)]
 pub struct Met {
     pub calls: u64,
     pub results: BTreeMap<(&'static str, u32), u64>,
-    pub stops: BTreeMap<u64, u64>,
+    pub stops: BTreeMap<(&'static str, u64), u64>,
+    pub across: BTreeMap<&'static str, u64>,
 }
 
 impl Met {
@@ -21,146 +24,113 @@ impl Met {
     }
 }
 
-/// How many words stand on either side of a lent slice, which nobody may write. Under a checker of memory it is better to have
-/// none, so that the allocation ends where the slice does: GUARD_MARGIN=0.
-fn margin() -> usize {
-    static MARGIN: OnceLock<usize> = OnceLock::new();
-    *MARGIN.get_or_init(|| env::var("GUARD_MARGIN").map_or(3, |text| text.parse().expect("GUARD_MARGIN is a number")))
+/// Both hand back the same number.
+fn same(one: u32, other: u32) -> Result<u32, String> {
+    if one != other {
+        return Err(format!("handed back: {one}, {other}"));
+    }
+    Ok(one)
 }
 
-/// A lent slice for each of the two, with the same numbers in and around it.
-struct Lent<X> {
-    proved: Box<[X]>,
-    reference: Box<[X]>,
+/// Both leave the same in all that was lent.
+fn alike<W: Form>(one: &Request<W>, other: &Request<W>) -> Result<(), String> {
+    one.difference(other).map_or(Ok(()), Err)
 }
 
-impl<X: Copy + PartialEq + Debug> Lent<X> {
-    fn new(words: &[X], around: X) -> Lent<X> {
-        let side = vec![around; margin()];
-        let all = [&side, words, &side].concat().into_boxed_slice();
-        Lent { proved: all.clone(), reference: all }
+/// One request put to the proved code and to the reference: the first difference, proved first, if there is one.
+pub fn put<W: Form>(asked: &Request<W>, met: &mut Met) -> Result<(), String> {
+    let (mut proved, mut reference) = (asked.clone(), asked.clone());
+    for _ in 0..asked.calls() {
+        let result = same(proved.put(&library()), reference.put(&Reference))?;
+        alike(&proved, &reference)?;
+        met.calls += 1;
+        *met.results.entry((asked.function(), result)).or_default() += 1;
+        match &proved {
+            Request::Run { numbers, .. } if result != 99 => *met.stops.entry((asked.function(), numbers[1])).or_default() += 1,
+            _ => {}
+        }
     }
+    Ok(())
+}
 
-    fn both(&mut self) -> (&mut [X], &mut [X]) {
-        let inner = margin()..self.proved.len() - margin();
-        (&mut self.proved[inner.clone()], &mut self.reference[inner])
-    }
-
-    fn check(&self, what: &str) -> Result<(), String> {
-        if self.proved == self.reference {
+/// What the proved code answers in the first form, it answers in the second where the nodes and lines are the same, right or wrong: the
+/// first difference, the first form first.
+pub fn across(asked: &Request<u32>, met: &mut Met) -> Result<(), String> {
+    let Some(mut second) = asked.in_second_form() else { return Ok(()) };
+    let mut first = asked.clone();
+    for _ in 0..asked.calls() {
+        let results = (first.put(&library()), second.put(&library()));
+        // a text of more nodes than the first form allows
+        if results.0 == 18 {
             return Ok(());
         }
-        let i = self.proved.iter().zip(&self.reference).position(|(a, b)| a != b).unwrap();
-        Err(format!("{what}[{}]: proved {:?}, reference {:?}", i as isize - margin() as isize, self.proved[i], self.reference[i]))
+        same(results.0, results.1)?;
     }
+    alike(&first.in_second_form().expect("it was the same before"), &second)?;
+    *met.across.entry(asked.function()).or_default() += 1;
+    Ok(())
 }
 
-fn same(proved: u32, reference: u32) -> Result<u32, String> {
-    if proved == reference {
-        Ok(proved)
-    } else {
-        Err(format!("proved hands back {proved}, reference {reference}"))
-    }
+/// What the proved code moves to the other form, if it does.
+fn moved<X: From<u8> + Clone>(length: usize, write: impl FnOnce(&mut [X], &mut [u64]) -> u32) -> Option<Vec<X>> {
+    let mut out = vec![X::from(0); length];
+    (write(&mut out, &mut [0; 2]) == 0).then_some(out)
 }
 
-/// One request put to both: the first difference, if there is one.
-pub fn put(request: &Request, met: &mut Met) -> Result<(), String> {
-    let mut count = |name: &'static str, result: u32| {
-        met.calls += 1;
-        *met.results.entry((name, result)).or_default() += 1;
-    };
-    match request {
-        Request::Rule { rule, numbers } => {
-            let mut n = Lent::new(numbers, 7);
-            let (p, r) = n.both();
-            count("rule", same(proved::rule(rule, p), faced::rule(rule, r))?);
-            n.check("numbers")
+/// What the proved code has moved comes back as it was, and a script that has moved with its rule is answered as before.
+pub fn there_and_back<W: Form>(asked: &Request<W>, met: &mut Met) -> Result<(), String> {
+    let (here, there) = (W::LIBRARY, W::Other::LIBRARY);
+    let (Request::MoveRule { rule, .. } | Request::MoveScript { rule, .. }) = asked else { return Ok(()) };
+    let Some(new_rule) = moved(rule.len(), |out, n| here.move_rule(rule, out, n)) else { return Ok(()) };
+    if moved(rule.len(), |out, n| there.move_rule(&new_rule, out, n)).as_ref() != Some(rule) {
+        return Err(format!("the rule moved is {new_rule:x?}, which does not come back"));
+    }
+    if let Request::MoveScript { script, .. } = asked {
+        let Some(new_script) = moved(script.len(), |out, n| here.move_script(rule, script, out, n)) else { return Ok(()) };
+        if moved(script.len(), |out, n| there.move_script(&new_rule, &new_script, out, n)).as_ref() != Some(script) {
+            return Err(format!("the script moved is {new_script:x?}, which does not come back"));
         }
-        Request::Bare { rule, script, numbers } => {
-            let mut n = Lent::new(numbers, 7);
-            let (p, r) = n.both();
-            count("bare", same(proved::bare(rule, script, p), faced::bare(rule, script, r))?);
-            n.check("numbers")
-        }
-        Request::Script { rule, script, numbers } => {
-            let mut n = Lent::new(numbers, 7);
-            let (p, r) = n.both();
-            count("script", same(proved::script(rule, script, p), faced::script(rule, script, r))?);
-            n.check("numbers")
-        }
-        Request::Weave { rule, bare, out, numbers } => {
-            let mut n = Lent::new(numbers, 7);
-            let mut o = Lent::new(out, 7);
-            let ((p, r), (po, ro)) = (n.both(), o.both());
-            count("weave", same(proved::weave(rule, bare, po, p), faced::weave(rule, bare, ro, r))?);
-            n.check("numbers")?;
-            o.check("out")
-        }
-        Request::Facts { rule, instructions, out, numbers } => {
-            let mut n = Lent::new(numbers, 7);
-            let mut o = Lent::new(out, 7);
-            let ((p, r), (po, ro)) = (n.both(), o.both());
-            count("facts", same(proved::facts(rule, instructions, po, p), faced::facts(rule, instructions, ro, r))?);
-            n.check("numbers")?;
-            o.check("out")
-        }
-        Request::Judge { rule, history, numbers } => {
-            let mut n = Lent::new(numbers, 7);
-            let (p, r) = n.both();
-            count("judge", same(proved::judge(rule, history, p), faced::judge(rule, history, r))?);
-            n.check("numbers")
-        }
-        Request::Run { rule, script, inputs, budget, history, numbers } => {
-            let mut n = Lent::new(numbers, 7);
-            let mut h = Lent::new(history, 7);
-            let ((p, r), (ph, rh)) = (n.both(), h.both());
-            let result = same(proved::run(rule, script, inputs, *budget, ph, p), faced::run(rule, script, inputs, *budget, rh, r))?;
-            count("run", result);
-            if result != 99 {
-                *met.stops.entry(p[1]).or_default() += 1;
-            }
-            n.check("numbers")?;
-            h.check("history")
-        }
-        Request::Fresh { rule, state } => {
-            let mut s = Lent::new(state, 7);
-            let (p, r) = s.both();
-            count("fresh", same(proved::fresh(rule, p), faced::fresh(rule, r))?);
-            s.check("state")
-        }
-        Request::Steps { rule, script, inputs, history, state, count: steps } => {
-            let mut s = Lent::new(state, 7);
-            let mut h = Lent::new(history, 7);
-            for _ in 0..*steps {
-                let ((p, r), (ph, rh)) = (s.both(), h.both());
-                count("step", same(proved::step(rule, script, inputs, ph, p), faced::step(rule, script, inputs, rh, r))?);
-                s.check("state")?;
-                h.check("history")?;
-            }
-            Ok(())
-        }
-        Request::Text { text, out, numbers } => {
-            let mut n = Lent::new(numbers, 7);
-            let mut o = Lent::new(out, 7);
-            let ((p, r), (po, ro)) = (n.both(), o.both());
-            count("text", same(proved::text(text, po, p), faced::text(text, ro, r))?);
-            n.check("numbers")?;
-            o.check("out")
+        let (mut before, mut after) = ([7], [7]);
+        same(here.script(rule, script, &mut before), there.script(&new_rule, &new_script, &mut after))?;
+        if before != after {
+            return Err(format!("the place before and after: {before:?}, {after:?}"));
         }
     }
+    *met.across.entry(asked.function()).or_default() += 1;
+    Ok(())
 }
 
-/// Requests 0 to `count` − 1 of a seed; the first difference, or what was met.
+/// Requests 0 to `count` − 1: the first difference, if there is one.
+fn each<W: Form>(
+    count: u64,
+    make: impl Fn(u64) -> Request<W>,
+    mut ask: impl FnMut(u64, &Request<W>) -> Result<(), String>,
+) -> Result<(), String> {
+    for n in 0..count {
+        let asked = make(n);
+        ask(n, &asked).map_err(|e| format!("{} in request {n}: {e}\n{asked:x?}", asked.function()))?;
+    }
+    Ok(())
+}
+
+/// So many requests of a seed in the first form, of which an eighth go to the second as well, a fifteenth as many in the second form, and
+/// a fortieth as many moves each way; the first difference, or what was met.
 pub fn compare(seed: u64, count: u64) -> Result<Met, String> {
     let mut met = Met::default();
-    for n in 0..count {
-        let before = request(seed, n);
-        let asked = before.clone();
-        put(&asked, &mut met).map_err(|e| format!("seed {seed}, request {n}: {e}\n{before:x?}"))?;
-        // What is lent to be read stays as it was.
-        if asked != before {
-            return Err(format!("seed {seed}, request {n}: what was lent to be read has changed\n{before:x?}"));
-        }
-    }
+    each::<u32>(
+        count,
+        |n| request(seed, n),
+        |n, asked| {
+            put(asked, &mut met)?;
+            // sixteen of these have each kind of rule and request
+            if n / 16 % 8 == 0 {
+                across(asked, &mut met).map_err(|e| format!("in both forms, {e}"))?;
+            }
+            Ok(())
+        },
+    )?;
+    each::<u64>(count / 15, |n| request(seed, n), |_, asked| put(asked, &mut met))?;
+    each::<u32>(count / 40, |n| moving(seed, n), |_, asked| put(asked, &mut met).and_then(|_| there_and_back(asked, &mut met)))?;
+    each::<u64>(count / 40, |n| moving(seed, n), |_, asked| put(asked, &mut met).and_then(|_| there_and_back(asked, &mut met)))?;
     Ok(met)
 }

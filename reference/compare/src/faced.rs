@@ -1,11 +1,14 @@
 //! What `include/guard.h` says of each function, over the reference.
-use reference::judge::judge as judge_history;
-use reference::largest::find_facts;
-use reference::machine::{self, fresh as fresh_machine, nodes_within, step_stored, Machine, Stop};
-use reference::rule::check_rule;
-use reference::script::{check_bare, check_script};
-use reference::text::read_text;
-use reference::weave::weave as weave_script;
+use crate::face::Face;
+use crate::proved::Form;
+use reference::judge::judge_in;
+use reference::largest::find_facts_in;
+use reference::machine::{fresh, nodes_in, run_in, step_stored_in, Machine, Ran, Stop};
+use reference::moves::{move_rule, move_script};
+use reference::rule::check_rule_in;
+use reference::script::{check_bare_in, check_script_in};
+use reference::text::read_text_in;
+use reference::weave::weave_in;
 use reference::No;
 
 const TOO_SHORT: u32 = 99;
@@ -19,107 +22,40 @@ fn note<const N: usize>(numbers: &mut [u64], words: [u64; N]) {
     numbers[..N].copy_from_slice(&words);
 }
 
-fn checked<X>(numbers: &mut [u64], answer: impl FnOnce() -> Result<X, No>) -> u32 {
-    if numbers.is_empty() {
+/// Writes the numbers of an answer, of a refusal the place and zeros.
+fn answered<const N: usize>(numbers: &mut [u64], answer: impl FnOnce() -> Result<[u64; N], No>) -> u32 {
+    if numbers.len() < N {
         return TOO_SHORT;
     }
-    match answer() {
-        Ok(_) => {
-            note(numbers, [0]);
-            0
-        }
-        Err(no) => {
-            note(numbers, [no.place as u64]);
-            no.number
-        }
-    }
+    let (result, words) = match answer() {
+        Ok(words) => (0, words),
+        Err(no) => (no.number, std::array::from_fn(|k| if k == 0 { no.place as u64 } else { 0 })),
+    };
+    note(numbers, words);
+    result
 }
 
-pub fn rule(rule: &[u32], numbers: &mut [u64]) -> u32 {
-    checked(numbers, || check_rule(rule))
-}
-
-pub fn bare(rule: &[u32], script: &[u32], numbers: &mut [u64]) -> u32 {
-    checked(numbers, || check_bare(rule, script))
-}
-
-pub fn script(rule: &[u32], script: &[u32], numbers: &mut [u64]) -> u32 {
-    checked(numbers, || check_script(rule, script))
+fn checked<X>(numbers: &mut [u64], answer: impl FnOnce() -> Result<X, No>) -> u32 {
+    answered(numbers, || answer().map(|_| [0]))
 }
 
 /// How many were written, of lines, of nodes or of facts.
 fn written(numbers: &mut [u64], answer: impl FnOnce() -> Result<usize, No>) -> u32 {
-    if numbers.len() < 2 {
-        return TOO_SHORT;
-    }
-    match answer() {
-        Ok(count) => {
-            note(numbers, [0, count as u64]);
-            0
-        }
-        Err(no) => {
-            note(numbers, [no.place as u64, 0]);
-            no.number
-        }
-    }
+    answered(numbers, || answer().map(|count| [0, count as u64]))
 }
 
-pub fn weave(rule: &[u32], bare: &[u32], out: &mut [u32], numbers: &mut [u64]) -> u32 {
-    written(numbers, || weave_script(rule, bare, out))
-}
-
-pub fn facts(rule: &[u32], instructions: &[u32], out: &mut [u32], numbers: &mut [u64]) -> u32 {
-    written(numbers, || find_facts(rule, instructions, out))
-}
-
-pub fn text(text: &[u8], out: &mut [u32], numbers: &mut [u64]) -> u32 {
-    written(numbers, || read_text(text, out))
-}
-
-pub fn judge(rule: &[u32], history: &[u16], numbers: &mut [u64]) -> u32 {
-    if numbers.len() < 4 {
-        return TOO_SHORT;
-    }
-    match judge_history(rule, history, DIRECT) {
-        Ok(v) if v.part.is_empty() => {
-            note(numbers, [0, 0, 0, v.index as u64]);
-            0
-        }
-        Ok(v) => {
-            note(numbers, [0, 1, v.index as u64, 0]);
-            0
-        }
-        Err(no) => {
-            note(numbers, [no.place as u64, 0, 0, 0]);
-            no.number
-        }
-    }
-}
-
-pub fn run(rule: &[u32], script: &[u32], inputs: &[u16], budget: u64, history: &mut [u16], numbers: &mut [u64]) -> u32 {
-    if numbers.len() < 22 {
-        return TOO_SHORT;
-    }
-    let mut words = [0; 22];
-    let result = match machine::run(rule, script, inputs, budget, history) {
-        Ok(r) => {
-            words[1] = match r.stop {
-                Stop::Halted => 1,
-                Stop::Spent => 2,
-                Stop::Dry => 3,
-                Stop::Full => 4,
-            };
-            words[2..6].copy_from_slice(&[r.line, r.steps, r.presentations, r.read]);
-            words[6..].copy_from_slice(&r.dials.map(u64::from));
-            0
-        }
-        Err(no) => {
-            words[0] = no.place as u64;
-            no.number
-        }
+/// The numbers of a run that was made.
+fn ran_words(ran: &Ran) -> [u64; 22] {
+    let stop = match ran.stop {
+        Stop::Halted => 1,
+        Stop::Spent => 2,
+        Stop::Dry => 3,
+        Stop::Full => 4,
     };
-    note(numbers, words);
-    result
+    let mut words = [0; 22];
+    words[1..6].copy_from_slice(&[stop, ran.line, ran.steps, ran.presentations, ran.read]);
+    words[6..].copy_from_slice(&ran.dials.map(u64::from));
+    words
 }
 
 /// Node 0 is the most significant bit.
@@ -136,26 +72,75 @@ fn note_machine(state: &mut [u64], m: &Machine) {
     note(&mut state[5..], m.dials.map(u64::from));
 }
 
-pub fn fresh(rule: &[u32], state: &mut [u64]) -> u32 {
-    if state.len() < 21 {
-        return TOO_SHORT;
-    }
-    note_machine(state, &fresh_machine(&nodes_within(rule)));
-    0
-}
+/// The reference behind the header's functions.
+pub struct Reference;
 
-pub fn step(rule: &[u32], script: &[u32], inputs: &[u16], history: &mut [u16], state: &mut [u64]) -> u32 {
-    if state.len() < 21 {
-        return TOO_SHORT;
+impl<W: Form> Face<W> for Reference {
+    fn text(&self, text: &[u8], out: &mut [W], numbers: &mut [u64]) -> u32 {
+        written(numbers, || read_text_in(text, out))
     }
-    let mut dials = [0; 16];
-    for (dial, &word) in dials.iter_mut().zip(&state[5..21]) {
-        match u16::try_from(word) {
-            Ok(number) => *dial = number,
-            Err(_) => return TOO_LARGE,
+
+    fn rule(&self, rule: &[W], numbers: &mut [u64]) -> u32 {
+        checked(numbers, || check_rule_in(rule))
+    }
+
+    fn bare(&self, rule: &[W], script: &[u32], numbers: &mut [u64]) -> u32 {
+        checked(numbers, || check_bare_in(rule, script))
+    }
+
+    fn script(&self, rule: &[W], script: &[W], numbers: &mut [u64]) -> u32 {
+        checked(numbers, || check_script_in(rule, script))
+    }
+
+    fn weave(&self, rule: &[W], bare: &[u32], out: &mut [W], numbers: &mut [u64]) -> u32 {
+        written(numbers, || weave_in(rule, bare, out))
+    }
+
+    fn facts(&self, rule: &[W], instructions: &[u32], out: &mut [W], numbers: &mut [u64]) -> u32 {
+        written(numbers, || find_facts_in(rule, instructions, out))
+    }
+
+    fn judge(&self, rule: &[W], history: &[u16], numbers: &mut [u64]) -> u32 {
+        answered(numbers, || {
+            let verdict = judge_in(rule, history, DIRECT)?;
+            let index = verdict.index as u64;
+            Ok(if verdict.part.is_empty() { [0, 0, 0, index] } else { [0, 1, index, 0] })
+        })
+    }
+
+    fn run(&self, rule: &[W], script: &[W], inputs: &[u16], budget: u64, history: &mut [u16], numbers: &mut [u64]) -> u32 {
+        answered(numbers, || run_in(rule, script, inputs, budget, history).map(|ran| ran_words(&ran)))
+    }
+
+    fn fresh(&self, rule: &[W], state: &mut [u64]) -> u32 {
+        if state.len() < 21 {
+            return TOO_SHORT;
         }
+        note_machine(state, &fresh(&nodes_in(rule)));
+        0
     }
-    let m = Machine { dials, kept: bits(state[3]), work: bits(state[4]), line: state[0], presentations: state[1], read: state[2] };
-    note_machine(state, &step_stored(rule, script, inputs, history, m));
-    0
+
+    fn step(&self, rule: &[W], script: &[W], inputs: &[u16], history: &mut [u16], state: &mut [u64]) -> u32 {
+        if state.len() < 21 {
+            return TOO_SHORT;
+        }
+        let mut dials = [0; 16];
+        for (dial, &word) in dials.iter_mut().zip(&state[5..21]) {
+            match u16::try_from(word) {
+                Ok(number) => *dial = number,
+                Err(_) => return TOO_LARGE,
+            }
+        }
+        let m = Machine { dials, kept: bits(state[3]), work: bits(state[4]), line: state[0], presentations: state[1], read: state[2] };
+        note_machine(state, &step_stored_in(rule, script, inputs, history, m));
+        0
+    }
+
+    fn move_rule(&self, rule: &[W], out: &mut [W::Other], numbers: &mut [u64]) -> u32 {
+        written(numbers, || move_rule(rule, out))
+    }
+
+    fn move_script(&self, rule: &[W], script: &[W], out: &mut [W::Other], numbers: &mut [u64]) -> u32 {
+        written(numbers, || move_script(rule, script, out))
+    }
 }

@@ -1,176 +1,146 @@
 //! The functions of `include/guard.h`, on slices.
-pub mod face {
-    extern "C" {
-        pub fn guard_rule(rule: *const u32, rule_length: usize, numbers: *mut u64, numbers_length: usize) -> u32;
-        pub fn guard_bare(
-            rule: *const u32,
-            rule_length: usize,
-            script: *const u32,
-            script_length: usize,
-            numbers: *mut u64,
-            numbers_length: usize,
-        ) -> u32;
-        pub fn guard_script(
-            rule: *const u32,
-            rule_length: usize,
-            script: *const u32,
-            script_length: usize,
-            numbers: *mut u64,
-            numbers_length: usize,
-        ) -> u32;
-        pub fn guard_weave(
-            rule: *const u32,
-            rule_length: usize,
-            bare: *const u32,
-            bare_length: usize,
-            out: *mut u32,
-            out_length: usize,
-            numbers: *mut u64,
-            numbers_length: usize,
-        ) -> u32;
-        pub fn guard_facts(
-            rule: *const u32,
-            rule_length: usize,
-            instructions: *const u32,
-            instructions_length: usize,
-            out: *mut u32,
-            out_length: usize,
-            numbers: *mut u64,
-            numbers_length: usize,
-        ) -> u32;
-        pub fn guard_judge(
-            rule: *const u32,
-            rule_length: usize,
-            history: *const u16,
-            history_length: usize,
-            numbers: *mut u64,
-            numbers_length: usize,
-        ) -> u32;
-        pub fn guard_run(
-            rule: *const u32,
-            rule_length: usize,
-            script: *const u32,
-            script_length: usize,
-            inputs: *const u16,
-            inputs_length: usize,
-            budget: u64,
-            history: *mut u16,
-            history_length: usize,
-            numbers: *mut u64,
-            numbers_length: usize,
-        ) -> u32;
-        pub fn guard_fresh(rule: *const u32, rule_length: usize, state: *mut u64, state_length: usize) -> u32;
-        pub fn guard_step(
-            rule: *const u32,
-            rule_length: usize,
-            script: *const u32,
-            script_length: usize,
-            inputs: *const u16,
-            inputs_length: usize,
-            history: *mut u16,
-            history_length: usize,
-            state: *mut u64,
-            state_length: usize,
-        ) -> u32;
-        pub fn guard_text(
-            text: *const u8,
-            text_length: usize,
-            out: *mut u32,
-            out_length: usize,
-            numbers: *mut u64,
-            numbers_length: usize,
-        ) -> u32;
+use crate::face::Face;
+use reference::form::Word;
+use std::mem::transmute;
+
+/// A word of a stored form, with the library's functions for that form.
+pub trait Form: Word + From<u8> {
+    /// The form that the moves lead to.
+    type Other: Form<Other = Self>;
+    const LIBRARY: Library<Self>;
+}
+
+/// A function of the header, and its name there.
+#[derive(Clone, Copy)]
+pub struct Function<F> {
+    pub name: &'static str,
+    pub call: F,
+}
+
+type Asks<X> = unsafe extern "C" fn(*const X, usize, *mut u64, usize) -> u32;
+type AsksTwo<X, Y> = unsafe extern "C" fn(*const X, usize, *const Y, usize, *mut u64, usize) -> u32;
+type Writes<X, Y> = unsafe extern "C" fn(*const X, usize, *mut Y, usize, *mut u64, usize) -> u32;
+type WritesOfTwo<X, Y, Z> = unsafe extern "C" fn(*const X, usize, *const Y, usize, *mut Z, usize, *mut u64, usize) -> u32;
+type Runs<X> = unsafe extern "C" fn(*const X, usize, *const X, usize, *const u16, usize, u64, *mut u16, usize, *mut u64, usize) -> u32;
+type Steps<X> = unsafe extern "C" fn(*const X, usize, *const X, usize, *const u16, usize, *mut u16, usize, *mut u64, usize) -> u32;
+
+/// The library's functions for one form.
+#[derive(Clone, Copy)]
+pub struct Library<W: Form> {
+    pub text: Function<Writes<u8, W>>,
+    pub rule: Function<Asks<W>>,
+    pub bare: Function<AsksTwo<W, u32>>,
+    pub script: Function<AsksTwo<W, W>>,
+    pub weave: Function<WritesOfTwo<W, u32, W>>,
+    pub facts: Function<WritesOfTwo<W, u32, W>>,
+    pub judge: Function<AsksTwo<W, u16>>,
+    pub run: Function<Runs<W>>,
+    pub fresh: Function<Asks<W>>,
+    pub step: Function<Steps<W>>,
+    pub move_rule: Function<Writes<W, W::Other>>,
+    pub move_script: Function<WritesOfTwo<W, W, W::Other>>,
+}
+
+macro_rules! library {
+    ($($field:ident: $name:ident),*) => {{
+        extern "C" {
+            $(fn $name();)*
+        }
+        // Safety: the types that the header gives are those of the fields.
+        Library { $($field: Function { name: stringify!($name), call: unsafe { transmute::<unsafe extern "C" fn(), _>($name) } }),* }
+    }};
+}
+
+impl Form for u32 {
+    type Other = u64;
+    const LIBRARY: Library<u32> = library! {
+        text: guard_text, rule: guard_rule, bare: guard_bare, script: guard_script, weave: guard_weave, facts: guard_facts,
+        judge: guard_judge, run: guard_run, fresh: guard_fresh, step: guard_step, move_rule: guard_rule_up, move_script: guard_script_up
+    };
+}
+
+impl Form for u64 {
+    type Other = u32;
+    const LIBRARY: Library<u64> = library! {
+        text: guard_text64, rule: guard_rule64, bare: guard_bare64, script: guard_script64, weave: guard_weave64, facts: guard_facts64,
+        judge: guard_judge64, run: guard_run64, fresh: guard_fresh64, step: guard_step64, move_rule: guard_rule_back,
+        move_script: guard_script_back
+    };
+}
+
+/// Whether the library has the functions of the second form and the moves.
+pub const BOTH_FORMS: bool = cfg!(not(first_form_alone));
+
+// In their place, so that the benchmark links. A call ends the program.
+#[cfg(first_form_alone)]
+std::arch::global_asm!(
+    ".irp name, text64, rule64, bare64, script64, weave64, facts64, judge64, run64, fresh64, step64, rule_up, rule_back, script_up, script_back",
+    ".globl guard_\\name",
+    "guard_\\name:",
+    ".endr",
+    "ud2",
+);
+
+/// The library's functions for a form that is told by the words.
+pub fn library<W: Form>() -> Library<W> {
+    W::LIBRARY
+}
+
+// Safety of each call: a slice's pointer and length are those that the header asks for, and slices that are lent to be written do not
+// overlap any other.
+impl<W: Form> Face<W> for Library<W> {
+    fn text(&self, text: &[u8], out: &mut [W], numbers: &mut [u64]) -> u32 {
+        unsafe { (self.text.call)(text.as_ptr(), text.len(), out.as_mut_ptr(), out.len(), numbers.as_mut_ptr(), numbers.len()) }
     }
-}
 
-// Safety of each call below: a slice's pointer and length are those that the header asks for, and slices that are lent to be
-// written do not overlap any other.
-
-pub fn rule(rule: &[u32], numbers: &mut [u64]) -> u32 {
-    unsafe { face::guard_rule(rule.as_ptr(), rule.len(), numbers.as_mut_ptr(), numbers.len()) }
-}
-
-pub fn bare(rule: &[u32], script: &[u32], numbers: &mut [u64]) -> u32 {
-    unsafe { face::guard_bare(rule.as_ptr(), rule.len(), script.as_ptr(), script.len(), numbers.as_mut_ptr(), numbers.len()) }
-}
-
-pub fn script(rule: &[u32], script: &[u32], numbers: &mut [u64]) -> u32 {
-    unsafe { face::guard_script(rule.as_ptr(), rule.len(), script.as_ptr(), script.len(), numbers.as_mut_ptr(), numbers.len()) }
-}
-
-pub fn weave(rule: &[u32], bare: &[u32], out: &mut [u32], numbers: &mut [u64]) -> u32 {
-    unsafe {
-        face::guard_weave(
-            rule.as_ptr(),
-            rule.len(),
-            bare.as_ptr(),
-            bare.len(),
-            out.as_mut_ptr(),
-            out.len(),
-            numbers.as_mut_ptr(),
-            numbers.len(),
-        )
+    fn rule(&self, rule: &[W], numbers: &mut [u64]) -> u32 {
+        unsafe { (self.rule.call)(rule.as_ptr(), rule.len(), numbers.as_mut_ptr(), numbers.len()) }
     }
-}
 
-pub fn facts(rule: &[u32], instructions: &[u32], out: &mut [u32], numbers: &mut [u64]) -> u32 {
-    unsafe {
-        face::guard_facts(
-            rule.as_ptr(),
-            rule.len(),
-            instructions.as_ptr(),
-            instructions.len(),
-            out.as_mut_ptr(),
-            out.len(),
-            numbers.as_mut_ptr(),
-            numbers.len(),
-        )
+    fn bare(&self, rule: &[W], script: &[u32], numbers: &mut [u64]) -> u32 {
+        unsafe { (self.bare.call)(rule.as_ptr(), rule.len(), script.as_ptr(), script.len(), numbers.as_mut_ptr(), numbers.len()) }
     }
-}
 
-pub fn judge(rule: &[u32], history: &[u16], numbers: &mut [u64]) -> u32 {
-    unsafe { face::guard_judge(rule.as_ptr(), rule.len(), history.as_ptr(), history.len(), numbers.as_mut_ptr(), numbers.len()) }
-}
-
-pub fn run(rule: &[u32], script: &[u32], inputs: &[u16], budget: u64, history: &mut [u16], numbers: &mut [u64]) -> u32 {
-    unsafe {
-        face::guard_run(
-            rule.as_ptr(),
-            rule.len(),
-            script.as_ptr(),
-            script.len(),
-            inputs.as_ptr(),
-            inputs.len(),
-            budget,
-            history.as_mut_ptr(),
-            history.len(),
-            numbers.as_mut_ptr(),
-            numbers.len(),
-        )
+    fn script(&self, rule: &[W], script: &[W], numbers: &mut [u64]) -> u32 {
+        unsafe { (self.script.call)(rule.as_ptr(), rule.len(), script.as_ptr(), script.len(), numbers.as_mut_ptr(), numbers.len()) }
     }
-}
 
-pub fn fresh(rule: &[u32], state: &mut [u64]) -> u32 {
-    unsafe { face::guard_fresh(rule.as_ptr(), rule.len(), state.as_mut_ptr(), state.len()) }
-}
-
-pub fn step(rule: &[u32], script: &[u32], inputs: &[u16], history: &mut [u16], state: &mut [u64]) -> u32 {
-    unsafe {
-        face::guard_step(
-            rule.as_ptr(),
-            rule.len(),
-            script.as_ptr(),
-            script.len(),
-            inputs.as_ptr(),
-            inputs.len(),
-            history.as_mut_ptr(),
-            history.len(),
-            state.as_mut_ptr(),
-            state.len(),
-        )
+    fn weave(&self, rule: &[W], bare: &[u32], out: &mut [W], numbers: &mut [u64]) -> u32 {
+        let (b, lines, o, space) = (bare.as_ptr(), bare.len(), out.as_mut_ptr(), out.len());
+        unsafe { (self.weave.call)(rule.as_ptr(), rule.len(), b, lines, o, space, numbers.as_mut_ptr(), numbers.len()) }
     }
-}
 
-pub fn text(text: &[u8], out: &mut [u32], numbers: &mut [u64]) -> u32 {
-    unsafe { face::guard_text(text.as_ptr(), text.len(), out.as_mut_ptr(), out.len(), numbers.as_mut_ptr(), numbers.len()) }
+    fn facts(&self, rule: &[W], instructions: &[u32], out: &mut [W], numbers: &mut [u64]) -> u32 {
+        let (i, lines, o, space) = (instructions.as_ptr(), instructions.len(), out.as_mut_ptr(), out.len());
+        unsafe { (self.facts.call)(rule.as_ptr(), rule.len(), i, lines, o, space, numbers.as_mut_ptr(), numbers.len()) }
+    }
+
+    fn judge(&self, rule: &[W], history: &[u16], numbers: &mut [u64]) -> u32 {
+        unsafe { (self.judge.call)(rule.as_ptr(), rule.len(), history.as_ptr(), history.len(), numbers.as_mut_ptr(), numbers.len()) }
+    }
+
+    fn run(&self, rule: &[W], script: &[W], inputs: &[u16], budget: u64, history: &mut [u16], numbers: &mut [u64]) -> u32 {
+        let (r, nodes, s, words) = (rule.as_ptr(), rule.len(), script.as_ptr(), script.len());
+        let (i, count, h, space) = (inputs.as_ptr(), inputs.len(), history.as_mut_ptr(), history.len());
+        unsafe { (self.run.call)(r, nodes, s, words, i, count, budget, h, space, numbers.as_mut_ptr(), numbers.len()) }
+    }
+
+    fn fresh(&self, rule: &[W], state: &mut [u64]) -> u32 {
+        unsafe { (self.fresh.call)(rule.as_ptr(), rule.len(), state.as_mut_ptr(), state.len()) }
+    }
+
+    fn step(&self, rule: &[W], script: &[W], inputs: &[u16], history: &mut [u16], state: &mut [u64]) -> u32 {
+        let (r, nodes, s, words) = (rule.as_ptr(), rule.len(), script.as_ptr(), script.len());
+        let (i, count, h, space) = (inputs.as_ptr(), inputs.len(), history.as_mut_ptr(), history.len());
+        unsafe { (self.step.call)(r, nodes, s, words, i, count, h, space, state.as_mut_ptr(), state.len()) }
+    }
+
+    fn move_rule(&self, rule: &[W], out: &mut [W::Other], numbers: &mut [u64]) -> u32 {
+        unsafe { (self.move_rule.call)(rule.as_ptr(), rule.len(), out.as_mut_ptr(), out.len(), numbers.as_mut_ptr(), numbers.len()) }
+    }
+
+    fn move_script(&self, rule: &[W], script: &[W], out: &mut [W::Other], numbers: &mut [u64]) -> u32 {
+        let (s, words, o, space) = (script.as_ptr(), script.len(), out.as_mut_ptr(), out.len());
+        unsafe { (self.move_script.call)(rule.as_ptr(), rule.len(), s, words, o, space, numbers.as_mut_ptr(), numbers.len()) }
+    }
 }

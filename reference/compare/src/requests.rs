@@ -1,34 +1,22 @@
 //! Random requests: what passes every question, what is spoiled bit by bit, several faults at once, lengths one short and one
 //! long.
+use crate::lent::Lent;
+use crate::proved::Form;
+use crate::request::Request;
 use crate::{guards, texts};
 use reference::facts::{bit, close, A, B, C, F, M, T, W};
+use reference::form::Word;
 use reference::generate;
 use reference::judge::{first_priors, next_priors, values_now};
 use reference::largest::note_largest;
 use reference::random::Rng;
-use reference::rule::{check_rule, Rule};
-use reference::script::{encode_lines, instruction_words, Line};
-use reference::text::read_text;
+use reference::rule::{check_rule_in, Node, Rule};
+use reference::script::{encode_lines_in, instruction_words, Line};
+use reference::text::read_text_in;
 use reference::weave::weave_lines;
 
-/// A call of one function. The lent slices are as long as these and hold these numbers before the call.
-#[derive(Clone, Debug, PartialEq)]
-pub enum Request {
-    Rule { rule: Vec<u32>, numbers: Vec<u64> },
-    Bare { rule: Vec<u32>, script: Vec<u32>, numbers: Vec<u64> },
-    Script { rule: Vec<u32>, script: Vec<u32>, numbers: Vec<u64> },
-    Weave { rule: Vec<u32>, bare: Vec<u32>, out: Vec<u32>, numbers: Vec<u64> },
-    Facts { rule: Vec<u32>, instructions: Vec<u32>, out: Vec<u32>, numbers: Vec<u64> },
-    Judge { rule: Vec<u32>, history: Vec<u16>, numbers: Vec<u64> },
-    Run { rule: Vec<u32>, script: Vec<u32>, inputs: Vec<u16>, budget: u64, history: Vec<u16>, numbers: Vec<u64> },
-    Fresh { rule: Vec<u32>, state: Vec<u64> },
-    /// So many steps, one after the other.
-    Steps { rule: Vec<u32>, script: Vec<u32>, inputs: Vec<u16>, history: Vec<u16>, state: Vec<u64>, count: usize },
-    Text { text: Vec<u8>, out: Vec<u32>, numbers: Vec<u64> },
-}
-
 /// Lent words: as many as the function needs, or one short, one long, none, some more.
-fn numbers(g: &mut Rng, needed: usize) -> Vec<u64> {
+fn numbers(g: &mut Rng, needed: usize) -> Lent<u64> {
     let length = match g.below(20) {
         0 => needed - 1,
         1 => needed + 1,
@@ -36,44 +24,77 @@ fn numbers(g: &mut Rng, needed: usize) -> Vec<u64> {
         3 => g.below(2 * needed + 3),
         _ => needed,
     };
-    (0..length).map(|_| g.next()).collect()
+    any_words(g, length)
+}
+
+/// Any word.
+fn any<W: Word>(g: &mut Rng) -> W {
+    W::from_top(g.next() << (64 - W::BITS))
+}
+
+fn any_words<W: Form>(g: &mut Rng, length: usize) -> Lent<W> {
+    (0..length).map(|_| any(g)).collect::<Vec<_>>().into()
+}
+
+/// A word with some bits flipped; those of the first form are the uppermost.
+fn flipped<W: Word>(word: W, bits: u64) -> W {
+    W::from_top(word.at_top() ^ bits)
+}
+
+/// One of a word's bits.
+fn any_bit<W: Word>(g: &mut Rng) -> u64 {
+    1 << (64 - W::BITS as usize + g.below(W::BITS as usize))
 }
 
 /// One to four bits flipped.
-pub fn spoil(g: &mut Rng, words: &mut [u32]) {
+pub fn spoil<W: Word>(g: &mut Rng, words: &mut [W]) {
     if words.is_empty() {
         return;
     }
     for _ in 0..g.pick(&[1, 1, 1, 2, 3, 4]) {
         let i = g.below(words.len());
-        words[i] ^= 1 << g.below(32);
+        words[i] = flipped(words[i], any_bit::<W>(g));
     }
 }
 
 /// One word less, one more.
-pub fn lengthen(g: &mut Rng, words: &mut Vec<u32>) {
+pub fn lengthen<W: Form>(g: &mut Rng, words: &mut Vec<W>) {
     if g.chance(1, 2) {
         words.pop();
     } else {
-        words.push(if g.chance(1, 2) { 0 } else { g.next() as u32 });
+        words.push(if g.chance(1, 2) { W::from(0) } else { any(g) });
     }
 }
 
+/// How many nodes a rule has: in the second form often more than the first allows, or about as many as either allows.
+fn rule_size<W: Word>(g: &mut Rng) -> usize {
+    if W::MOST_NODES == 64 && g.chance(1, 12) {
+        return match g.below(4) {
+            0 => g.within(31, 34),
+            1 => g.within(62, 64),
+            _ => g.within(33, 64),
+        };
+    }
+    generate::rule_size_within(g, W::MOST_NODES)
+}
+
 /// A rule that passes, in which nodes are used again or not; and its words, sometimes spoiled.
-fn rule(g: &mut Rng, again: bool, spoiled: usize) -> (Rule, Vec<u32>) {
-    let size = generate::rule_size(g);
+fn rule<W: Form>(g: &mut Rng, again: bool, spoiled: usize) -> (Rule, Vec<W>) {
+    let size = rule_size::<W>(g);
     let rule = if again { generate::sharing_rule(g, size) } else { generate::rule(g, size) };
-    let mut words = rule.words();
+    let mut words = rule.words_in();
     if g.chance(spoiled, 100) {
         match g.below(12) {
             0 => words.clear(),
             1 => lengthen(g, &mut words),
-            2 => words.resize(g.within(31, 34), 0),
-            3 => words.iter_mut().for_each(|w| *w = g.next() as u32),
+            2 => words.resize(g.within(W::MOST_NODES - 1, W::MOST_NODES + 2), W::from(0)),
+            3 => words.iter_mut().for_each(|w| *w = any(g)),
             // operands moved about, so that questions 3 and 4 have something to find
             4..=6 => {
                 let i = g.below(words.len());
-                words[i] = words[i] & !0x7fe | (g.below(1 << 10) as u32) << 1;
+                let operands = g.below(W::MOST_NODES * W::MOST_NODES);
+                let (left, right) = ((operands / W::MOST_NODES) as u8, (operands % W::MOST_NODES) as u8);
+                words[i] = Node { left, right, ..Node::decode_in(words[i]) }.encode_in();
             }
             7 | 8 => {
                 let (i, j) = (g.below(words.len()), g.below(words.len()));
@@ -238,11 +259,16 @@ fn misuse(g: &mut Rng, rule: &Rule, lines: &mut Vec<Line>) {
 }
 
 /// An annotated script for a rule: woven, or with the most facts noted; sometimes spoiled.
-fn annotated(g: &mut Rng, rule: &Rule, spoiled: usize) -> Vec<u32> {
+fn annotated<W: Form>(g: &mut Rng, rule: &Rule, spoiled: usize) -> Vec<W> {
     let mut lines = if g.chance(1, 3) {
         noted_most(g, rule)
     } else {
-        let n = if g.chance(1, 100) { g.within(20, 200) } else { g.within(1, 12) };
+        let n = match rule.len() {
+            // a block has hundreds of lines, and few of them make up a script
+            33.. => g.within(1, 4),
+            _ if g.chance(1, 100) => g.within(20, 200),
+            _ => g.within(1, 12),
+        };
         let bare = generate::bare(g, rule, n);
         weave_lines(rule, &bare).0
     };
@@ -263,7 +289,7 @@ fn annotated(g: &mut Rng, rule: &Rule, spoiled: usize) -> Vec<u32> {
     if misused {
         misuse(g, rule, &mut lines);
     }
-    let mut words = encode_lines(&lines);
+    let mut words = encode_lines_in(&lines);
     if !misused && g.chance(spoiled, 100) {
         match g.below(18) {
             0 => words.clear(),
@@ -273,28 +299,30 @@ fn annotated(g: &mut Rng, rule: &Rule, spoiled: usize) -> Vec<u32> {
                     lengthen(g, &mut words);
                 }
             }
-            3 => words.resize(8 * g.within(1023, 1026), 0),
-            4 => words.iter_mut().for_each(|w| *w = g.next() as u32),
-            // an instruction's bit
+            3 => words.resize(8 * g.within(1023, 1026), W::from(0)),
+            4 => words.iter_mut().for_each(|w| *w = any(g)),
+            // a bit of an instruction, or below it
             5..=7 => {
                 let i = 8 * g.below(lines.len());
-                words[i] ^= 1 << g.below(32);
+                words[i] = flipped(words[i], any_bit::<W>(g));
             }
             // a fact of a node that is there, at one line or at line 0
             8..=12 => {
                 let line = if g.chance(1, 4) { 0 } else { g.below(lines.len()) };
-                words[8 * line + g.within(1, 7)] ^= 1 << (31 - g.below(rule.len()));
+                let fact = bit(g.below(rule.len()));
+                let at = 8 * line + g.within(1, 7);
+                words[at] = flipped(words[at], fact);
             }
             // facts of one kind kept where a line leads, which its instruction may have to drop
             13 | 14 => {
                 // each kind as often as another, though T and F are dropped at more lines
-                let kept = kept_facts(&lines, &words);
+                let kept = kept_facts(&lines);
                 let kinds: Vec<usize> = (1..8).filter(|kind| kept.iter().any(|(at, _)| at % 8 == *kind)).collect();
                 if !kinds.is_empty() {
                     let kind = g.pick(&kinds);
-                    let of_kind: Vec<(usize, u32)> = kept.into_iter().filter(|(at, _)| at % 8 == kind).collect();
+                    let of_kind: Vec<(usize, u64)> = kept.into_iter().filter(|(at, _)| at % 8 == kind).collect();
                     let (at, facts) = g.pick(&of_kind);
-                    words[at] |= facts;
+                    words[at] = flipped(words[at], facts);
                 }
             }
             // a 13's registers the other way round
@@ -302,7 +330,7 @@ fn annotated(g: &mut Rng, rule: &Rule, spoiled: usize) -> Vec<u32> {
                 let compared: Vec<usize> = (0..lines.len()).filter(|&i| lines[i].op == 13).collect();
                 if !compared.is_empty() {
                     let i = g.pick(&compared);
-                    words[8 * i] = Line::new(13, lines[i].c as u8, lines[i].r as u16, lines[i].target).word();
+                    words[8 * i] = instruction(&Line::new(13, lines[i].c as u8, lines[i].r as u16, lines[i].target));
                 }
             }
             _ => spoil(g, &mut words),
@@ -311,16 +339,21 @@ fn annotated(g: &mut Rng, rule: &Rule, spoiled: usize) -> Vec<u32> {
     words
 }
 
+/// The first word of a line.
+fn instruction<W: Word>(line: &Line) -> W {
+    W::from_top(u64::from(line.word()) << 32)
+}
+
 /// For each line and each line that it leads to, the facts of each kind that are noted at the first alone, with the word where the
 /// second has that kind.
-fn kept_facts(lines: &[Line], words: &[u32]) -> Vec<(usize, u32)> {
+fn kept_facts(lines: &[Line]) -> Vec<(usize, u64)> {
     let mut kept = vec![];
     for (i, l) in lines.iter().enumerate() {
         for to in l.follows(i) {
-            for kind in 1..8 {
-                let dropped = words[8 * i + kind] & !words[8 * to + kind];
+            for (kind, (noted, after)) in l.facts.set.iter().zip(lines[to].facts.set).enumerate() {
+                let dropped = noted & !after;
                 if dropped != 0 {
-                    kept.push((8 * to + kind, dropped));
+                    kept.push((8 * to + 1 + kind, dropped));
                 }
             }
         }
@@ -373,13 +406,13 @@ fn inputs(g: &mut Rng, spoiled: usize) -> Vec<u16> {
     words
 }
 
-fn lent_history(g: &mut Rng) -> Vec<u16> {
+fn lent_history(g: &mut Rng) -> Lent<u16> {
     let length = match g.below(4) {
         0 => g.below(180),
         1 => 16 * g.below(12) + g.pick(&[0, 15, 1]),
         _ => 16 * g.below(30),
     };
-    (0..length).map(|_| g.next() as u16).collect()
+    (0..length).map(|_| g.next() as u16).collect::<Vec<_>>().into()
 }
 
 fn budget(g: &mut Rng) -> u64 {
@@ -416,9 +449,9 @@ fn state(g: &mut Rng, rule: &Rule, lines: usize) -> Vec<u64> {
 }
 
 /// A table that need not pass any question, and a line at the machine's place that names some node of it, or a number that is no node's.
-fn name_any(g: &mut Rng, rule: &mut Vec<u32>, script: &mut [u32], state: &[u64]) {
-    let c = g.below(32) as u32;
-    let mention = g.pick(&[3, 4]) << 29 | c << 6 | c << 1;
+fn name_any<W: Form>(g: &mut Rng, rule: &mut Vec<W>, script: &mut [W], state: &[u64]) {
+    let c = g.below(W::MOST_NODES);
+    let mention = Node::new(g.pick(&[3, 4]), 0, 0, c as u8, c as u8).encode_in();
     match g.below(4) {
         0 | 1 if !rule.is_empty() => {
             let i = g.below(rule.len());
@@ -426,8 +459,8 @@ fn name_any(g: &mut Rng, rule: &mut Vec<u32>, script: &mut [u32], state: &[u64])
         }
         // the last node that counts, or the first that does not
         2 => {
-            rule.resize(g.within(31, 32), 0);
-            rule.extend([mention, 0]);
+            rule.resize(g.within(W::MOST_NODES - 1, W::MOST_NODES), W::from(0));
+            rule.extend([mention, W::from(0)]);
         }
         _ => {}
     }
@@ -439,32 +472,29 @@ fn name_any(g: &mut Rng, rule: &mut Vec<u32>, script: &mut [u32], state: &[u64])
         _ => Line::new(op, 0, c as u16, target),
     };
     if let Some(word) = state.first().and_then(|&at| script.get_mut(8 * at.min(2_000) as usize)) {
-        *word = line.word();
+        *word = instruction(&line);
     }
 }
 
 /// A text, and as many words as its nodes need, or fewer or more.
-fn text(g: &mut Rng) -> Request {
-    let text = texts::text(g);
-    let needed = read_text(&text, &mut [0; 32]).unwrap_or(0);
+fn text<W: Form>(g: &mut Rng) -> Request<W> {
+    let text = texts::text(g, W::MOST_NODES);
+    let needed = read_text_in(&text, &mut [W::from(0); 64]).unwrap_or(0);
     let length = match g.below(12) {
         0 | 1 => needed.saturating_sub(1),
         2 => needed + 1,
         3 => 0,
         4 => g.below(needed + 1),
-        5 => g.below(40),
-        6 | 7 => 32,
+        5 => g.below(W::MOST_NODES + 8),
+        6 | 7 => W::MOST_NODES,
         _ => needed,
     };
-    let out = (0..length).map(|_| g.next() as u32).collect();
+    let out = any_words(g, length);
     Request::Text { text, out, numbers: numbers(g, 2) }
 }
 
-/// Instructions without facts, and eight words a line, or fewer or more.
-fn facts(g: &mut Rng, again: bool) -> Request {
-    let (table, rule) = rule(g, again, 8);
-    let instructions = guards::instructions(g, &table);
-    let needed = 8 * instructions.len();
+/// As many words as are needed for something, or fewer or more.
+fn room<W: Form>(g: &mut Rng, needed: usize) -> Lent<W> {
     let length = match g.below(12) {
         0 | 1 => needed.saturating_sub(1),
         2 => needed + 1,
@@ -473,18 +503,24 @@ fn facts(g: &mut Rng, again: bool) -> Request {
         5 => needed + g.below(40),
         _ => needed,
     };
-    let out = (0..length).map(|_| g.next() as u32).collect();
+    any_words(g, length)
+}
+
+/// Instructions without facts, and room for eight words a line.
+fn facts<W: Form>(g: &mut Rng, again: bool) -> Request<W> {
+    let (table, rule) = rule(g, again, 8);
+    let instructions = guards::instructions(g, &table);
+    let out = room(g, 8 * instructions.len());
     Request::Facts { rule, instructions, out, numbers: numbers(g, 2) }
 }
 
 /// Request number `n` of a seed: it depends on nothing else, so that a difference can be looked at again by its number. Of every eight
 /// the last is a text and the fourth asks for facts, whatever the seed. Of every sixteen the upper eight have rules in which nodes are used
-/// again, the lower eight rules in which none is: these have kept the numbers that they had before there were the others.
-pub fn request(seed: u64, n: u64) -> Request {
+/// again, the lower eight rules in which none is. In the first form these have kept the numbers that they had before there were the
+/// others.
+pub fn request<W: Form>(seed: u64, n: u64) -> Request<W> {
     let again = n / 8 % 2 == 1;
-    let mut g = Rng(seed ^ n.wrapping_mul(0xd134_2543_de82_ef95));
-    let g = &mut g;
-    g.next();
+    let g = &mut numbered(seed, n);
     match n % 8 {
         3 => return facts(g, again),
         7 => return text(g),
@@ -506,9 +542,9 @@ pub fn request(seed: u64, n: u64) -> Request {
             Request::Script { rule, script, numbers: numbers(g, 1) }
         }
         9..=11 => {
-            let (table, rule) = rule(g, again, 5);
+            let (table, rule) = rule::<W>(g, again, 5);
             let bare = bare(g, &table, 15);
-            let needed = check_rule(&rule).ok().map_or(0, |t| {
+            let needed = check_rule_in(&rule).ok().map_or(0, |t| {
                 let presents = bare.iter().filter(|&&w| w >> 28 == 8).count();
                 8 * (bare.len() - presents + presents * t.block_lines())
             });
@@ -520,7 +556,7 @@ pub fn request(seed: u64, n: u64) -> Request {
                 _ => needed + g.below(3) * g.below(20),
             };
             // a script that is too long needs no output
-            let out = (0..length.min(8 * 1025)).map(|_| g.next() as u32).collect();
+            let out = any_words(g, length.min(8 * 1025));
             Request::Weave { rule, bare, out, numbers: numbers(g, 2) }
         }
         12 | 13 => {
@@ -544,7 +580,7 @@ pub fn request(seed: u64, n: u64) -> Request {
             let inputs = inputs(g, 20);
             let state = if g.chance(1, 2) {
                 let mut words = vec![0; 21];
-                words[3] = (0..table.len()).filter(|&i| table.nodes[i].kind == 5).map(|i| 1 << (63 - i)).sum();
+                words[3] = (0..table.len()).filter(|&i| table.nodes[i].kind == 5).map(bit).sum();
                 words
             } else {
                 state(g, &table, script.len() / 8)
@@ -552,7 +588,29 @@ pub fn request(seed: u64, n: u64) -> Request {
             if again && g.chance(1, 6) {
                 name_any(g, &mut rule, &mut script, &state);
             }
-            Request::Steps { rule, script, inputs, history: lent_history(g), state, count: g.within(1, 30) }
+            Request::Steps { rule, script, inputs, history: lent_history(g), state: state.into(), count: g.within(1, 30) }
         }
     }
+}
+
+/// Move number `n` of a seed, of a rule or of an annotated script. Of every two the upper one has a rule in which nodes are used again.
+pub fn moving<W: Form>(seed: u64, n: u64) -> Request<W> {
+    let again = n % 2 == 1;
+    let g = &mut numbered(seed, n);
+    if g.chance(1, 4) {
+        let rule = rule(g, again, 50).1;
+        let out = room(g, rule.len());
+        return Request::MoveRule { rule, out, numbers: numbers(g, 2) };
+    }
+    let (table, rule) = rule(g, again, 10);
+    let script = annotated(g, &table, 60);
+    let out = room(g, script.len());
+    Request::MoveScript { rule, script, out, numbers: numbers(g, 2) }
+}
+
+/// What request number `n` of a seed is made from.
+fn numbered(seed: u64, n: u64) -> Rng {
+    let mut g = Rng(seed ^ n.wrapping_mul(0xd134_2543_de82_ef95));
+    g.next();
+    g
 }

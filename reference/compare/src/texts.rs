@@ -3,12 +3,12 @@
 use reference::generate_text::{formula, spaced, tokens};
 use reference::random::Rng;
 
-/// How many nodes: mostly few, sometimes about 32, or many more.
-fn nodes(g: &mut Rng) -> usize {
+/// How many nodes: mostly few, sometimes about as many as the form allows, or many more.
+fn nodes(g: &mut Rng, most: usize) -> usize {
     match g.below(24) {
-        0 => 32,
-        1 => 33,
-        2 => g.within(28, 36),
+        0 => most,
+        1 => most + 1,
+        2 => g.within(most - 4, most + 4),
         3 => g.within(34, 120),
         4 => g.within(100, 400),
         _ => g.within(1, 16),
@@ -113,8 +113,8 @@ fn spoil_bytes(g: &mut Rng, text: &mut Vec<u8>) {
 }
 
 /// A formula's text, sometimes spoiled.
-fn formula_text(g: &mut Rng) -> Vec<u8> {
-    let n = nodes(g);
+fn formula_text(g: &mut Rng, most: usize) -> Vec<u8> {
+    let n = nodes(g, most);
     let formula = formula(g, n);
     let mut tokens = tokens(g, &formula);
     if g.chance(1, 5) {
@@ -151,12 +151,13 @@ fn any_tokens(g: &mut Rng) -> Vec<u8> {
     spaced(g, &tokens)
 }
 
-pub fn text(g: &mut Rng) -> Vec<u8> {
+/// A text for a form that allows so many nodes.
+pub fn text(g: &mut Rng, most: usize) -> Vec<u8> {
     match g.below(30) {
         0 => vec![b' '; g.below(4)],
         1 => (0..g.within(1, 12)).map(|_| any_byte(g)).collect(),
         2 | 3 => any_tokens(g),
         4 | 5 => bracketed(g),
-        _ => formula_text(g),
+        _ => formula_text(g, most),
     }
 }

@@ -4,7 +4,9 @@
 //! `BEFORE` was made by this file, put beside the tests of the last commit before the request, 9126584: there the proved library and the
 //! reference both gave it. A third implementation gave it too, asked for the weaving of 2026-05 on the lines that `print_requests` prints.
 //! To make it again, do that: where the list is not this one the test prints what it got.
-use compare::{faced, proved};
+use compare::face::Face;
+use compare::faced::Reference;
+use compare::proved::library;
 use reference::random::Rng;
 
 const SEED: u64 = 20_261_116;
@@ -104,14 +106,12 @@ fn digest(so_far: u64, words: impl IntoIterator<Item = u64>) -> u64 {
     words.into_iter().fold(so_far, |digest, word| (digest ^ word).wrapping_mul(0x100_0000_01b3))
 }
 
-type Weave = fn(&[u32], &[u32], &mut [u32], &mut [u64]) -> u32;
-
 /// The digests, and how many scripts were woven.
-fn digests(weave: Weave) -> (Vec<u64>, usize) {
+fn digests(face: &impl Face<u32>) -> (Vec<u64>, usize) {
     let (mut all, mut so_far, mut woven) = (vec![], 0xcbf2_9ce4_8422_2325, 0);
     for (k, (rule, bare, lent)) in requests().enumerate() {
         let (mut out, mut numbers) = (vec![7; lent], [7; 2]);
-        let result = weave(&rule, &bare, &mut out, &mut numbers);
+        let result = face.weave(&rule, &bare, &mut out, &mut numbers);
         let (written, rest) = out.split_at(8 * numbers[1] as usize);
         assert!(rest.iter().all(|&word| word == 7), "later words stay");
         so_far = digest(so_far, [result as u64, numbers[0], numbers[1]]);
@@ -131,8 +131,7 @@ fn unshared_tables_weave_as_before() {
         let uses = uses(&rule);
         assert!(uses[..last].iter().all(|&n| n == 1) && uses[last..] == [0; 32][last..], "{rule:x?}");
     }
-    for (name, weave) in [("proved", proved::weave as Weave), ("reference", faced::weave)] {
-        let (got, woven) = digests(weave);
+    for (name, (got, woven)) in [("proved", digests(&library())), ("reference", digests(&Reference))] {
         println!("{name}: {woven} of {REQUESTS} woven");
         assert!((9_000..REQUESTS).contains(&woven), "{woven}");
         let wrong = got.iter().zip(BEFORE).position(|(got, before)| *got != before);

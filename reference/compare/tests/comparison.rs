@@ -1,18 +1,23 @@
 //! The comparison: every function of `include/guard.h` and the reference agree on random requests.
-//! GUARD_SEED and GUARD_REQUESTS set the seed and the number of requests; a request for steps makes several calls.
+//! GUARD_SEED and GUARD_REQUESTS set the seed and the number of requests in the first form; a request for steps makes several calls.
 use compare::compare::{compare, put, Met};
-use compare::requests::{request, Request};
-use compare::{faced, proved};
+use compare::face::Face;
+use compare::faced::Reference;
+use compare::lent::Lent;
+use compare::proved::{library, Form};
+use compare::request::Request;
+use compare::requests::{moving, request};
 use reference::facts::{all_facts, bit, first_facts, pass, with_planted_fault, Facts, Fault, A, B, C, M, T, W};
 use reference::judge::{first_priors, judge, next_priors, states, values_now};
 use reference::largest::find_facts;
-use reference::rule::{check_rule, Rule};
+use reference::rule::{check_rule, Node, Rule};
 use reference::script::{check_bare, check_instructions, check_script, Line};
 use reference::weave::weave;
 use reference::No;
 use std::cmp::Ordering;
 use std::collections::{BTreeMap, BTreeSet};
 use std::env;
+use std::ops::RangeInclusive;
 
 const SEED: u64 = 20_261_115;
 const REQUESTS: u64 = 1_200_000;
@@ -26,31 +31,67 @@ fn tell(met: &Met) {
     for ((name, result), n) in &met.results {
         println!("{n:>10}  {name} {result}");
     }
-    for (stop, n) in &met.stops {
-        println!("{n:>10}  run's stop {stop}");
+    for ((name, stop), n) in &met.stops {
+        println!("{n:>10}  {name}, stop {stop}");
+    }
+    for (name, n) in &met.across {
+        println!("{n:>10}  {name}, in both forms");
     }
 }
+
+/// The questions that each function puts, by the numbers that it can hand back besides 99.
+const QUESTIONS: [(&[&str], RangeInclusive<u32>, &[u32]); 14] = [
+    (&["guard_text", "guard_text64"], 0..=0, &[13, 16, 17, 18]),
+    (&["guard_rule", "guard_rule64"], 0..=4, &[]),
+    (&["guard_bare", "guard_bare64"], 0..=7, &[]),
+    (&["guard_script", "guard_script64"], 0..=11, &[]),
+    (&["guard_weave", "guard_weave64"], 0..=7, &[12, 13]),
+    (&["guard_facts", "guard_facts64"], 0..=7, &[13, 19]),
+    (&["guard_judge", "guard_judge64"], 0..=4, &[14, 15]),
+    (&["guard_run", "guard_run64"], 0..=11, &[15]),
+    (&["guard_fresh", "guard_fresh64"], 0..=0, &[]),
+    (&["guard_step", "guard_step64"], 0..=0, &[98]),
+    (&["guard_rule_up"], 0..=4, &[13]),
+    (&["guard_rule_back"], 0..=4, &[13, 20]),
+    (&["guard_script_up"], 0..=8, &[13]),
+    (&["guard_script_back"], 0..=8, &[13, 20]),
+];
 
 #[test]
 fn proved_and_reference_agree() {
-    let met = compare(number("GUARD_SEED", SEED), number("GUARD_REQUESTS", REQUESTS)).unwrap_or_else(|e| panic!("{e}"));
+    let requests = number("GUARD_REQUESTS", REQUESTS);
+    let seed = number("GUARD_SEED", SEED);
+    let met = compare(seed, requests).unwrap_or_else(|e| panic!("seed {seed}, {e}"));
     tell(&met);
-    for refusal in (0..=19).chain([98, 99]) {
-        assert!(met.with_result(refusal) > 0, "no call handed back {refusal}");
+    if requests < REQUESTS {
+        return;
     }
-    for refusal in (0..=7).chain([13, 19, 99]) {
-        assert!(met.results.contains_key(&("facts", refusal)), "no instructions were answered with {refusal}");
+    let mut wanted = BTreeSet::new();
+    for (functions, first, others) in QUESTIONS {
+        for number in first.chain(others.iter().copied()).chain([99]) {
+            wanted.extend(functions.iter().map(|name| (*name, number)));
+        }
     }
-    for refusal in [0, 13, 16, 17, 18, 99] {
-        assert!(met.results.contains_key(&("text", refusal)), "no text was answered with {refusal}");
-    }
-    for stop in 0..=4 {
-        assert!(met.stops.contains_key(&stop), "no run stopped as {stop}");
-    }
+    let handed_back: BTreeSet<(&str, u32)> = met.results.into_keys().collect();
+    assert_eq!(handed_back, wanted, "each number that a function can hand back, and no other");
+    let stops: Vec<(&str, u64)> = ["guard_run", "guard_run64"].into_iter().flat_map(|name| (0..=4).map(move |stop| (name, stop))).collect();
+    assert_eq!(met.stops.into_keys().collect::<Vec<_>>(), stops);
+    // in both forms: the functions of the first, and the moves
+    let asked: BTreeSet<&str> = QUESTIONS.iter().map(|(functions, ..)| functions[0]).collect();
+    assert_eq!(met.across.into_keys().collect::<BTreeSet<_>>(), asked);
 }
 
-/// One rule of the reference made wrong: the comparison notices. The requests are made without the fault, so that they are those of
-/// the comparison.
+/// The first request at which a fault of the reference is noticed. It is made without the fault, so that it is one of the comparison.
+fn noticed<W: Form>(fault: Fault, make: fn(u64, u64) -> Request<W>) -> u64 {
+    let differs = |&n: &u64| {
+        let asked = make(SEED, n);
+        with_planted_fault(fault, || put(&asked, &mut Met::default())).is_err()
+    };
+    // as many as there are moves each way, the fewest of all kinds of requests
+    (0..REQUESTS / 40).find(differs).unwrap_or_else(|| panic!("{fault:?} is not noticed"))
+}
+
+/// One rule of the reference made wrong: the comparison notices, in either form.
 #[test]
 fn planted_faults_are_noticed() {
     for fault in [
@@ -75,13 +116,18 @@ fn planted_faults_are_noticed() {
         Fault::PastFirst,
         Fault::DecidedAnew,
         Fault::LaterMentionsFree,
+        Fault::ZerosPass,
     ] {
-        let mut met = Met::default();
-        let noticed = (0..REQUESTS).find(|&n| {
-            let asked = request(SEED, n);
-            with_planted_fault(fault, || put(&asked, &mut met)).is_err()
-        });
-        println!("{fault:?}: request {}", noticed.unwrap_or_else(|| panic!("{fault:?} is not noticed")));
+        println!("{fault:?}: request {}, in the second form {}", noticed(fault, request::<u32>), noticed(fault, request::<u64>));
+    }
+    for fault in [Fault::BelowPasses, Fault::FiveBits, Fault::HalfOfFacts, Fault::TextOfHalf] {
+        println!("{fault:?}: in the second form request {}", noticed(fault, request::<u64>));
+    }
+    for fault in [Fault::ZerosPass, Fault::OutputFirst, Fault::MovesUnfit, Fault::MovesAcceptedAlone] {
+        println!("{fault:?}: move {} up", noticed(fault, moving::<u32>));
+    }
+    for fault in [Fault::FiveBits, Fault::HalfOfFacts, Fault::OutputFirst, Fault::MovesAcceptedAlone, Fault::TwentyFirst] {
+        println!("{fault:?}: move {} back", noticed(fault, moving::<u64>));
     }
     compare(SEED, 2_000).expect("without them there is no difference");
 }
@@ -91,7 +137,7 @@ fn planted_faults_are_noticed() {
 fn two_registers_are_compared() {
     let mut met: BTreeMap<&str, u32> = BTreeMap::new();
     for n in 0..60_000 {
-        let (rule, script, annotated) = match request(SEED, n) {
+        let (rule, script, annotated) = match request::<u32>(SEED, n) {
             Request::Rule { rule, .. } | Request::Judge { rule, .. } => (rule, None, false),
             Request::Bare { rule, script, .. } | Request::Weave { rule, bare: script, .. } => (rule, Some(script), false),
             Request::Script { rule, script, .. } | Request::Run { rule, script, .. } => (rule, Some(script), true),
@@ -101,7 +147,9 @@ fn two_registers_are_compared() {
         let compares = |w: u32| w >> 28 == 13;
         let names = match check_rule(&rule) {
             Ok(_) if rule.iter().any(|w| w >> 29 == 6) => Some("a rule that passes"),
-            Err(no) if no.number == 2 && rule[no.place] >> 29 == 6 && rule[no.place] >> 11 & 0x3fff > 15 => Some("a node's number above 15"),
+            Err(no) if no.number == 2 && rule[no.place] >> 29 == 6 && rule[no.place] >> 11 & 0x3fff > 15 => {
+                Some("a node's number above 15")
+            }
             _ => None,
         };
         let told = script.and_then(|script| {
@@ -144,11 +192,11 @@ fn end_met(before: u64, word: u32) -> Option<&'static str> {
 }
 
 /// What so many steps meet.
-fn ends_met(rule: &[u32], script: &[u32], inputs: &[u16], mut history: Vec<u16>, mut state: Vec<u64>, count: usize) -> Vec<&'static str> {
+fn ends_met(rule: &[u32], script: &[u32], inputs: &[u16], mut history: Lent<u16>, mut state: Lent<u64>, count: usize) -> Vec<&'static str> {
     let mut met = vec![];
     for _ in 0..count {
         let before = state.clone();
-        faced::step(rule, script, inputs, &mut history, &mut state);
+        Reference.step(rule, script, inputs, &mut history, &mut state);
         if state == before {
             break;
         }
@@ -163,7 +211,7 @@ fn ends_met(rule: &[u32], script: &[u32], inputs: &[u16], mut history: Vec<u16>,
 fn registers_meet_their_ends() {
     let mut met: BTreeMap<&str, u32> = BTreeMap::new();
     for n in 0..200_000 {
-        let names = match request(SEED, n) {
+        let names = match request::<u32>(SEED, n) {
             Request::Bare { rule, script, .. } => match check_bare(&rule, &script) {
                 Ok(_) if script.iter().any(|w| w >> 28 == 14) => vec!["a bare script with a 14"],
                 Err(no) if no.number == 6 && script[no.place] >> 28 == 14 => vec!["a bare script's 14 refused"],
@@ -171,8 +219,8 @@ fn registers_meet_their_ends() {
                 _ => vec![],
             },
             Request::Run { rule, script, inputs, history, .. } if check_script(&rule, &script).is_ok() => {
-                let mut start = vec![0; 21];
-                faced::fresh(&rule, &mut start);
+                let mut start: Lent<u64> = vec![0; 21].into();
+                Reference.fresh(&rule, &mut start);
                 ends_met(&rule, &script, &inputs, history, start, 100)
             }
             Request::Steps { rule, script, inputs, history, state, count } => ends_met(&rule, &script, &inputs, history, state, count),
@@ -191,7 +239,7 @@ fn registers_meet_their_ends() {
 fn since_steps_meet_their_cases() {
     let mut met = [0; 8];
     for n in 0..60_000 {
-        let Request::Judge { rule, history, .. } = request(SEED, n) else { continue };
+        let Request::Judge { rule, history, .. } = request::<u32>(SEED, n) else { continue };
         let Ok(verdict) = judge(&rule, &history, 0) else { continue };
         let rule = check_rule(&rule).expect("its history was judged");
         let mut prior = first_priors(&rule);
@@ -310,7 +358,7 @@ fn lost_met(rule: &Rule, lines: &[Line], place: usize) -> Vec<&'static str> {
 fn facts_meet_their_cases() {
     let mut met: BTreeMap<&str, u32> = BTreeMap::new();
     for n in 0..60_000 {
-        let Request::Facts { rule, instructions, out, .. } = request(SEED, n) else { continue };
+        let Request::Facts { rule, instructions, out, .. } = request::<u32>(SEED, n) else { continue };
         let Ok((table, lines)) = check_instructions(&rule, &instructions) else { continue };
         let needed = 8 * lines.len();
         let lost = find_facts(&rule, &instructions, &mut vec![0; needed]).err();
@@ -412,12 +460,19 @@ fn accepted_met(rule: &Rule, lines: &[Line]) -> Vec<&'static str> {
 }
 
 /// The steps that have to do with the bits of nodes that are no past nodes.
-fn steps_met(rule: &[u32], script: &[u32], inputs: &[u16], mut history: Vec<u16>, mut state: Vec<u64>, count: usize) -> Vec<&'static str> {
+fn steps_met(
+    rule: &[u32],
+    script: &[u32],
+    inputs: &[u16],
+    mut history: Lent<u16>,
+    mut state: Lent<u64>,
+    count: usize,
+) -> Vec<&'static str> {
     let mut met = vec![];
     let passes = check_rule(rule).is_ok();
     for _ in 0..count {
         let before = state.clone();
-        faced::step(rule, script, inputs, &mut history, &mut state);
+        Reference.step(rule, script, inputs, &mut history, &mut state);
         let Some(&word) = before.first().and_then(|&at| script.get(8 * at.min(2_000) as usize)) else { break };
         let l = Line::decode(word);
         let is_past = rule.get(l.c as usize).is_some_and(|w| matches!(w >> 29, 4 | 5));
@@ -438,7 +493,7 @@ fn steps_met(rule: &[u32], script: &[u32], inputs: &[u16], mut history: Vec<u16>
 }
 
 /// What a request meets that uses or misuses a shared node's bits.
-fn sharing_met(asked: Request) -> Vec<&'static str> {
+fn sharing_met(asked: Request<u32>) -> Vec<&'static str> {
     let shares = |table: &Rule| !table.shared_nodes().is_empty();
     match asked {
         Request::Script { rule, script, .. } | Request::Run { rule, script, .. } => {
@@ -486,7 +541,7 @@ fn sharing_met(asked: Request) -> Vec<&'static str> {
 fn shared_nodes_meet_their_cases() {
     let mut met: BTreeMap<&str, u32> = BTreeMap::new();
     for n in 0..120_000 {
-        let asked = request(SEED, n);
+        let asked = request::<u32>(SEED, n);
         let mut names = match &asked {
             Request::Rule { rule, .. } | Request::Script { rule, .. } | Request::Weave { rule, .. } | Request::Judge { rule, .. } => {
                 match check_rule(rule) {
@@ -507,51 +562,63 @@ fn shared_nodes_meet_their_cases() {
 }
 
 /// Every length of lent numbers, from none to two more than are needed, for answers of each kind.
-#[test]
-fn lent_lengths() {
-    let rule = [0x2200_0800, 0x2400_0800, 0x8000_0002];
-    let bare = [4 << 28 | 1 << 24, 4 << 28 | 2 << 24, 8 << 28, 7 << 28];
-    let mut woven = vec![0; 8 * 16];
-    assert_eq!(proved::weave(&rule, &bare, &mut woven, &mut [0; 2]), 0);
-    let inputs = [1, 0, 0, 1, 1, 0];
-    let stripped: Vec<u32> = woven.iter().step_by(8).copied().collect();
+fn lent_lengths_in<W: Form>() {
+    let (test, since) = (|register| Node::new(1, register, 1, 0, 0), Node::new(4, 0, 0, 0, 1));
+    let rule: Vec<W> = [test(1), test(2), since].iter().map(Node::encode_in).collect();
+    let bare = vec![4 << 28 | 1 << 24, 4 << 28 | 2 << 24, 8 << 28, 7 << 28];
+    let mut woven = vec![W::from(0); 8 * 16];
+    assert_eq!(library().weave(&rule, &bare, &mut woven, &mut [0; 2]), 0);
+    let inputs = vec![1, 0, 0, 1, 1, 0];
+    let stripped: Vec<u32> = woven.chunks(8).map(|line| Line::decode_annotated_in(line).word()).collect();
     // the present before its guard
     let lost = [&[8 << 28], &stripped[1..]].concat();
     for script in [&woven[..], &woven[..127], &[]] {
         for length in 0..=24 {
-            let numbers: Vec<u64> = (100..100 + length).collect();
-            for (history_length, out_length) in [(0, 0), (15, 127), (16, 128), (47, 129), (48, 200)] {
-                let mut p = (numbers.clone(), vec![5; history_length], vec![6; out_length]);
-                let mut r = p.clone();
-                let (text, short) = (b"r1=1 since r2=1", b"r1=1 since");
-                let asked = [
-                    (proved::rule(&rule, &mut p.0), faced::rule(&rule, &mut r.0)),
-                    (proved::bare(&rule, script, &mut p.0), faced::bare(&rule, script, &mut r.0)),
-                    (proved::script(&rule, script, &mut p.0), faced::script(&rule, script, &mut r.0)),
-                    (proved::weave(&rule, &bare, &mut p.2, &mut p.0), faced::weave(&rule, &bare, &mut r.2, &mut r.0)),
-                    (
-                        proved::facts(&rule, &stripped, &mut p.2, &mut p.0),
-                        faced::facts(&rule, &stripped, &mut r.2, &mut r.0),
-                    ),
-                    (proved::facts(&rule, &lost, &mut p.2, &mut p.0), faced::facts(&rule, &lost, &mut r.2, &mut r.0)),
-                    (proved::judge(&rule, &p.1, &mut p.0), faced::judge(&rule, &r.1, &mut r.0)),
-                    (
-                        proved::run(&rule, script, &inputs, 1000, &mut p.1, &mut p.0),
-                        faced::run(&rule, script, &inputs, 1000, &mut r.1, &mut r.0),
-                    ),
-                    (proved::fresh(&rule, &mut p.0), faced::fresh(&rule, &mut r.0)),
-                    (
-                        proved::step(&rule, script, &inputs, &mut p.1, &mut p.0),
-                        faced::step(&rule, script, &inputs, &mut r.1, &mut r.0),
-                    ),
-                    (proved::text(text, &mut p.2, &mut p.0), faced::text(text, &mut r.2, &mut r.0)),
-                    (proved::text(short, &mut p.2, &mut p.0), faced::text(short, &mut r.2, &mut r.0)),
-                ];
-                for (proved, reference) in asked {
-                    assert_eq!(proved, reference);
+            let numbers = || Lent::from((100..100 + length).collect::<Vec<u64>>());
+            for (space, room) in [(0, 0), (15, 127), (16, 128), (47, 129), (48, 200)] {
+                let (rule, script, inputs) = (|| rule.clone(), || script.to_vec(), || inputs.clone());
+                let history = || vec![5; space];
+                let out = || Lent::from(vec![W::from(6); room]);
+                let moved = || Lent::from(vec![W::Other::from(6); room]);
+                for asked in [
+                    Request::Rule { rule: rule(), numbers: numbers() },
+                    Request::Bare { rule: rule(), script: bare.clone(), numbers: numbers() },
+                    Request::Script { rule: rule(), script: script(), numbers: numbers() },
+                    Request::Weave { rule: rule(), bare: bare.clone(), out: out(), numbers: numbers() },
+                    Request::Facts { rule: rule(), instructions: stripped.clone(), out: out(), numbers: numbers() },
+                    Request::Facts { rule: rule(), instructions: lost.clone(), out: out(), numbers: numbers() },
+                    Request::Judge { rule: rule(), history: history(), numbers: numbers() },
+                    Request::Run {
+                        rule: rule(),
+                        script: script(),
+                        inputs: inputs(),
+                        budget: 1000,
+                        history: history().into(),
+                        numbers: numbers(),
+                    },
+                    Request::Fresh { rule: rule(), state: numbers() },
+                    Request::Steps {
+                        rule: rule(),
+                        script: script(),
+                        inputs: inputs(),
+                        history: history().into(),
+                        state: numbers(),
+                        count: 3,
+                    },
+                    Request::Text { text: b"r1=1 since r2=1".into(), out: out(), numbers: numbers() },
+                    Request::Text { text: b"r1=1 since".into(), out: out(), numbers: numbers() },
+                    Request::MoveRule { rule: rule(), out: moved(), numbers: numbers() },
+                    Request::MoveScript { rule: rule(), script: script(), out: moved(), numbers: numbers() },
+                ] {
+                    put(&asked, &mut Met::default()).unwrap_or_else(|e| panic!("{e}: {asked:x?}"));
                 }
-                assert_eq!(p, r);
             }
         }
     }
+}
+
+#[test]
+fn lent_lengths() {
+    lent_lengths_in::<u32>();
+    lent_lengths_in::<u64>();
 }

@@ -1,15 +1,29 @@
 //! Rules typed as text: all short ones, all spoilings of one byte, the longest, and what the random ones meet.
-use compare::compare::{put, Met};
-use compare::requests::{request, Request};
+use compare::compare::{across, put, Met};
+use compare::proved::Form;
+use compare::request::Request;
+use compare::requests::request;
 use reference::generate_text::TEXTS;
 use reference::text::{nodes_added, tokens, Item, Token};
 use reference::{No, TOP};
 use std::collections::BTreeMap;
 
-/// Puts a text to both, with so many words lent.
+/// A text, with so many words lent.
+fn typed<W: Form>(text: &[u8], words: usize) -> Request<W> {
+    Request::Text { text: text.into(), out: vec![W::from(7); words].into(), numbers: vec![8; 2].into() }
+}
+
+/// Puts a text to both in the first form.
 fn ask(text: &[u8], words: usize, met: &mut Met) {
-    let asked = Request::Text { text: text.to_vec(), out: vec![7; words], numbers: vec![8; 2] };
-    put(&asked, met).unwrap_or_else(|e| panic!("{:?}: {e}", String::from_utf8_lossy(text)));
+    put(&typed::<u32>(text, words), met).unwrap_or_else(|e| panic!("{:?}: {e}", String::from_utf8_lossy(text)));
+}
+
+/// Puts a text to both in either form, and to the proved code across the forms.
+fn ask_in_both(text: &[u8], words: usize, met: &mut Met) {
+    ask(text, words, met);
+    put(&typed::<u64>(text, words), met)
+        .and_then(|_| across(&typed(text, words), met))
+        .unwrap_or_else(|e| panic!("{:?}: {e}", String::from_utf8_lossy(text)));
 }
 
 #[rustfmt::skip]
@@ -17,11 +31,12 @@ const TOKENS: [&str; 19] = [
     "true", "false", "not", "wprev", "prev", "once", "sofar", "since", "and", "or", "implies", "(", ")", "r", "r1", "r2<3", "=", "1", "16384",
 ];
 
-/// All texts of up to five tokens, one after the other with a space between them and without.
+/// All texts of up to five tokens, one after the other with a space between them and without; of up to three in both forms.
 #[test]
 fn every_short_text() {
     let mut met = Met::default();
     for length in 0..=5 {
+        let ask = if length < 4 { ask_in_both } else { ask };
         for code in 0..TOKENS.len().pow(length) {
             let tokens: Vec<&str> = (0..length).map(|k| TOKENS[code / TOKENS.len().pow(k) % TOKENS.len()]).collect();
             ask(tokens.join(" ").as_bytes(), 34, &mut met);
@@ -36,6 +51,7 @@ fn every_short_text() {
 #[test]
 fn every_spoiling_of_one_byte() {
     let mut met = Met::default();
+    let ask = ask_in_both;
     for text in TEXTS.map(str::as_bytes) {
         for at in 0..=text.len() {
             let (before, after) = text.split_at(at);
@@ -80,10 +96,29 @@ fn long_texts() {
     ] {
         let text = text.as_bytes();
         for text in [text, &text[..text.len() - 1], &[text, b")"].concat(), &[text, b"x"].concat(), &[text, b" or"].concat()] {
-            ask(text, 32, &mut met);
+            ask_in_both(text, 32, &mut met);
         }
     }
     println!("{met:?}");
+}
+
+/// Texts of one node to 71, by each word, with one word too few, as many as are needed, and one more.
+#[test]
+fn every_count_of_nodes() {
+    let mut met = Met::default();
+    // a word, and how many nodes it adds
+    for (word, nodes) in [("wprev ", 1), ("not ", 2), ("r1=1 implies ", 2), ("once ", 4), ("prev ", 5), ("r1=1 and ", 6), ("sofar ", 8)] {
+        for count in 0..=70 / nodes {
+            let (text, needed) = (format!("{}r2<3", word.repeat(count)), nodes * count + 1);
+            for words in needed - 1..=needed + 1 {
+                ask_in_both(text.as_bytes(), words, &mut met);
+            }
+        }
+    }
+    println!("{met:?}");
+    // the first form refuses more of them with 18
+    let refused = ["guard_text", "guard_text64"].map(|name| met.results[&(name, 18)]);
+    assert!(refused[0] > refused[1] && refused[1] > 0, "{met:?}");
 }
 
 const PREFIXES: [&str; 5] = ["not", "wprev", "prev", "once", "sofar"];
@@ -135,8 +170,8 @@ fn wrong(text: &[u8], place: usize) -> Vec<&'static str> {
     names
 }
 
-/// What a text of the grammar is like, with so many words lent.
-fn right(tokens: &[Token], words: usize) -> Vec<&'static str> {
+/// What a text of the grammar is like, with so many words lent, in a form that allows so many nodes.
+fn right(tokens: &[Token], words: usize, most: usize) -> Vec<&'static str> {
     let nodes: usize = tokens.iter().map(|token| nodes_added(&token.item)).sum();
     let out_of_range = tokens.iter().find_map(|token| match token.item {
         Item::Test { register, .. } if register.value > 15 => Some("17 for a register"),
@@ -144,13 +179,13 @@ fn right(tokens: &[Token], words: usize) -> Vec<&'static str> {
         _ => None,
     });
     match (out_of_range, nodes) {
-        (Some(name), 33..) => vec![name, "17 before 18"],
+        (Some(name), _) if nodes > most => vec![name, "17 before 18"],
         (Some(name), _) => vec![name],
-        (None, 33) => vec!["18 at 33 nodes"],
+        (None, _) if nodes == most + 1 => vec!["18 at one node too many"],
         (None, 100..) => vec!["18 at 100 nodes or more"],
-        (None, 34..) if words < nodes => vec!["18 before 13"],
-        (None, 34..) => vec![],
-        (None, 32) if words == 32 => vec!["32 nodes, 32 words"],
+        (None, _) if nodes > most && words < nodes => vec!["18 before 13"],
+        (None, _) if nodes > most => vec![],
+        (None, _) if nodes == most && words == most => vec!["the most nodes, as many words"],
         (None, _) if words == nodes => vec!["as many words as nodes"],
         (None, _) if words + 1 == nodes => vec!["13, one word short"],
         (None, _) if words < nodes => vec!["13, more words short"],
@@ -160,16 +195,15 @@ fn right(tokens: &[Token], words: usize) -> Vec<&'static str> {
 
 /// The requests meet every word of a text, every two words that could take an operand from each other, and every refusal in each of
 /// its ways.
-#[test]
-fn texts_meet_the_grammar() {
+fn texts_meet<W: Form>() {
     let mut met: BTreeMap<String, u32> = BTreeMap::new();
     for n in (7..200_000).step_by(8) {
-        let Request::Text { text, out, .. } = request(20_261_115, n) else { panic!("every eighth request is a text") };
+        let Request::Text { text, out, .. } = request::<W>(20_261_115, n) else { panic!("every eighth request is a text") };
         let mut names: Vec<String> = vec![];
         match tokens(&text) {
             Err(No { place, .. }) => names.extend(wrong(&text, place).iter().map(|name| name.to_string())),
             Ok(tokens) => {
-                names.extend(right(&tokens, out.len()).iter().map(|name| name.to_string()));
+                names.extend(right(&tokens, out.len(), W::MOST_NODES).iter().map(|name| name.to_string()));
                 names.extend(neighbours(&tokens));
                 names.extend(tokens.iter().map(|token| match token.item {
                     Item::Word(word) => word.to_string(),
@@ -184,4 +218,10 @@ fn texts_meet_the_grammar() {
     println!("{met:#?}");
     // 5 words with 4 after them in 3 ways, 13 words and signs, 12 ways of being wrong, 11 others
     assert!(met.len() == 60 + 13 + 12 + 11 && met.values().all(|&n| n >= 20), "{met:?}");
+}
+
+#[test]
+fn texts_meet_the_grammar() {
+    texts_meet::<u32>();
+    texts_meet::<u64>();
 }

@@ -1,5 +1,6 @@
 //! Two judges over a rule that is decoded once: one takes a state at a time without a branch on what it reads, the other 64 states
 //! at once, a word for each node.
+use super::form::Set;
 use super::rule::{has_left, Rule, BELOW, EQUAL, EQUAL_REGISTERS, FALSE, IMPLIES, SINCE, WEAK_PREVIOUS};
 use super::{joined, no, numbers_small, No};
 
@@ -28,84 +29,98 @@ struct Join {
     bit: u8,
 }
 
-/// The nodes numbered anew, operands before their node and left's number one below a weak previous's, unless it has one already.
-#[derive(Default)]
-struct Decoded {
-    tests: [Test; 32],
-    test_count: usize,
-    pairs: [Pair; 32],
-    pair_count: usize,
-    /// Implies, since and weak previous, in the order of their numbers.
-    joins: [Join; 32],
-    join_count: usize,
-    last: u8,
-    since: u32,
-    weak: u32,
-    /// The weak previouses whose operand's number is one below theirs, and the others.
-    near: u32,
-    far: [Join; 32],
-    far_count: usize,
+/// Some of a rule's nodes, in the order of their numbers.
+struct Part<W: Set, X: Copy> {
+    all: W::Table<X>,
+    count: usize,
 }
 
-const NO_NUMBER: u8 = 32;
+impl<W: Set, X: Copy + Default> Part<W, X> {
+    fn none() -> Part<W, X> {
+        Part { all: W::table(X::default()), count: 0 }
+    }
 
-impl Decoded {
-    fn new(rule: &Rule) -> Decoded {
-        let mut d = Decoded::default();
-        d.last = d.number(rule, rule.count() - 1, &mut 0, &mut [NO_NUMBER; 32]);
+    fn push(&mut self, one: X) {
+        self.all.as_mut()[W::place(self.count)] = one;
+        self.count += 1;
+    }
+
+    fn each(&self) -> &[X] {
+        &self.all.as_ref()[..self.count]
+    }
+}
+
+/// The nodes numbered anew, operands before their node and left's number one below a weak previous's, unless it has one already. A
+/// node's bit in a set is the one of its new number, from the lowest.
+struct Decoded<W: Set> {
+    tests: Part<W, Test>,
+    pairs: Part<W, Pair>,
+    /// Implies, since and weak previous.
+    joins: Part<W, Join>,
+    last: u8,
+    since: W,
+    weak: W,
+    /// The weak previouses whose operand's number is one below theirs, and the others.
+    near: W,
+    far: Part<W, Join>,
+}
+
+const NO_NUMBER: u8 = 64;
+
+/// A node's bit, or none.
+fn bit_if<W: Set>(holds: bool, bit: u8) -> W {
+    W::from(holds as u8) << W::place(bit as usize) as u32
+}
+
+/// A set with a node's bit as the lowest.
+fn from_bit<W: Set>(set: W, bit: u8) -> W {
+    set >> W::place(bit as usize) as u32
+}
+
+impl<W: Set> Decoded<W> {
+    fn new(rule: &Rule<W>) -> Decoded<W> {
+        let none = W::default();
+        let (tests, pairs, joins, far) = (Part::none(), Part::none(), Part::none(), Part::none());
+        let mut d = Decoded { tests, pairs, joins, last: 0, since: none, weak: none, near: none, far };
+        d.last = d.number(rule, rule.count() - 1, &mut 0, &mut W::table(NO_NUMBER));
         d
     }
 
-    fn number(&mut self, rule: &Rule, node: usize, next: &mut u8, numbers: &mut [u8; 32]) -> u8 {
-        if numbers[node & 31] != NO_NUMBER {
-            return numbers[node & 31];
+    fn number(&mut self, rule: &Rule<W>, node: usize, next: &mut u8, numbers: &mut W::Table<u8>) -> u8 {
+        let known = numbers.as_ref()[W::place(node)];
+        if known != NO_NUMBER {
+            return known;
         }
-        let n = rule.nodes[node & 31];
+        let n = rule.node(node);
         let left = if has_left(n.kind) { self.number(rule, n.left as usize, next, numbers) } else { 0 };
         let right = if matches!(n.kind, IMPLIES | SINCE) { self.number(rule, n.right as usize, next, numbers) } else { 0 };
         let bit = *next;
         *next += 1;
-        numbers[node & 31] = bit;
+        numbers.as_mut()[W::place(node)] = bit;
         match n.kind {
             FALSE => {}
             EQUAL | BELOW => {
                 let (lo, width) = if n.kind == EQUAL { (n.constant, 1) } else { (0, n.constant) };
-                self.tests[self.test_count & 31] = Test { lo, width, register: n.register, bit };
-                self.test_count += 1;
+                self.tests.push(Test { lo, width, register: n.register, bit });
             }
-            EQUAL_REGISTERS => {
-                self.pairs[self.pair_count & 31] = Pair { register: n.register, other: n.constant as u8, bit };
-                self.pair_count += 1;
-            }
+            EQUAL_REGISTERS => self.pairs.push(Pair { register: n.register, other: n.constant as u8, bit }),
             kind => {
-                self.since |= ((kind == SINCE) as u32) << bit;
-                self.weak |= ((kind == WEAK_PREVIOUS) as u32) << bit;
-                self.near |= ((kind == WEAK_PREVIOUS && left + 1 == bit) as u32) << bit;
-                self.joins[self.join_count & 31] = Join { kind, left, right, bit };
-                self.join_count += 1;
-                if kind == WEAK_PREVIOUS && left + 1 != bit {
-                    self.far[self.far_count & 31] = Join { kind, left, right, bit };
-                    self.far_count += 1;
+                let join = Join { kind, left, right, bit };
+                let is_weak = kind == WEAK_PREVIOUS;
+                self.since |= bit_if(kind == SINCE, bit);
+                self.weak |= bit_if(is_weak, bit);
+                self.near |= bit_if(is_weak && left + 1 == bit, bit);
+                self.joins.push(join);
+                if is_weak && left + 1 != bit {
+                    self.far.push(join);
                 }
             }
         }
         bit
     }
-
-    fn tests(&self) -> &[Test] {
-        &self.tests[..self.test_count]
-    }
-
-    fn pairs(&self) -> &[Pair] {
-        &self.pairs[..self.pair_count]
-    }
-
-    fn joins(&self) -> &[Join] {
-        &self.joins[..self.join_count]
-    }
 }
 
-fn ask<'a>(rule: &'a [u32], history: &[u16]) -> Result<Rule<'a>, No> {
+fn ask<'a, W: Set>(rule: &'a [W], history: &[u16]) -> Result<Rule<'a, W>, No> {
     let rule = Rule::read(rule)?;
     if history.len() % 16 != 0 {
         return no(14, 0);
@@ -114,41 +129,35 @@ fn ask<'a>(rule: &'a [u32], history: &[u16]) -> Result<Rule<'a>, No> {
 }
 
 /// The lowest index at which the rule is false, or none; a state at a time.
-pub fn one_at_a_time(rule: &[u32], history: &[u16]) -> Result<Option<usize>, No> {
+pub fn one_at_a_time<W: Set>(rule: &[W], history: &[u16]) -> Result<Option<usize>, No> {
     let d = Decoded::new(&ask(rule, history)?);
     numbers_small(history)?;
     // weak previous takes its value from its prior alone
-    let mut joins = [Join::default(); 32];
-    let mut count = 0;
-    for &j in d.joins().iter().filter(|j| j.kind != WEAK_PREVIOUS) {
-        joins[count] = j;
-        count += 1;
-    }
-    let joins = &joins[..count];
+    let mut joins: Part<W, Join> = Part::none();
+    d.joins.each().iter().filter(|j| j.kind != WEAK_PREVIOUS).for_each(|&j| joins.push(j));
     let mut prior = d.weak;
     for (n, state) in history.chunks_exact(16).enumerate() {
         let state: &[u16; 16] = state.try_into().unwrap();
         let mut values = prior & d.weak;
-        for t in d.tests() {
+        for t in d.tests.each() {
             let holds = state[(t.register & 15) as usize].wrapping_sub(t.lo) < t.width;
-            values |= (holds as u32) << (t.bit & 31);
+            values |= bit_if(holds, t.bit);
         }
-        for p in d.pairs() {
+        for p in d.pairs.each() {
             let holds = state[(p.register & 15) as usize] == state[(p.other & 15) as usize];
-            values |= (holds as u32) << (p.bit & 31);
+            values |= bit_if(holds, p.bit);
         }
         // since: right, or left and prior; implies: right, or not left
         let (gate, flip) = (prior | !d.since, !d.since);
-        for j in joins {
-            let (left, right, at) = (j.left & 31, j.right & 31, j.bit & 31);
-            let v = values >> right | (values >> left ^ flip >> at) & gate >> at;
-            values |= (v & 1) << at;
+        for j in joins.each() {
+            let v = from_bit(values, j.right) | (from_bit(values, j.left) ^ from_bit(flip, j.bit)) & from_bit(gate, j.bit);
+            values |= (v & W::from(1)) << W::place(j.bit as usize) as u32;
         }
         prior = values << 1 & d.near | values & d.since;
-        for j in &d.far[..d.far_count] {
-            prior |= (values >> (j.left & 31) & 1) << (j.bit & 31);
+        for j in d.far.each() {
+            prior |= (from_bit(values, j.left) & W::from(1)) << W::place(j.bit as usize) as u32;
         }
-        if values >> (d.last & 31) & 1 == 0 {
+        if (from_bit(values, d.last) & W::from(1)).is_empty() {
             return Ok(Some(n));
         }
     }
@@ -168,21 +177,23 @@ fn packed(block: &[u16; 1024], passes: impl Fn(&[u16; 16]) -> bool) -> u64 {
 }
 
 /// The rule's values at 64 states.
-fn values_at(d: &Decoded, block: &[u16; 1024], values: &mut [u64; 32], carry: &mut [u64; 32]) -> u64 {
-    for t in d.tests() {
+fn values_at<W: Set>(d: &Decoded<W>, block: &[u16; 1024], values: &mut W::Table<u64>, carry: &mut W::Table<u64>) -> u64 {
+    let (values, carry) = (values.as_mut(), carry.as_mut());
+    let place = |bit: u8| W::place(bit as usize);
+    for t in d.tests.each() {
         let register = (t.register & 15) as usize;
-        values[(t.bit & 31) as usize] = match t.lo {
+        values[place(t.bit)] = match t.lo {
             0 => packed(block, |state| state[register] < t.width),
             lo => packed(block, |state| state[register] == lo),
         };
     }
-    for p in d.pairs() {
+    for p in d.pairs.each() {
         let (register, other) = ((p.register & 15) as usize, (p.other & 15) as usize);
-        values[(p.bit & 31) as usize] = packed(block, |state| state[register] == state[other]);
+        values[place(p.bit)] = packed(block, |state| state[register] == state[other]);
     }
-    for j in d.joins() {
-        let at = (j.bit & 31) as usize;
-        let (left, right, before) = (values[(j.left & 31) as usize], values[(j.right & 31) as usize], carry[at]);
+    for j in d.joins.each() {
+        let at = place(j.bit);
+        let (left, right, before) = (values[place(j.left)], values[place(j.right)], carry[at]);
         values[at] = match j.kind {
             IMPLIES => !left | right,
             WEAK_PREVIOUS => {
@@ -199,15 +210,15 @@ fn values_at(d: &Decoded, block: &[u16; 1024], values: &mut [u64; 32], carry: &m
             }
         };
     }
-    values[(d.last & 31) as usize]
+    values[place(d.last)]
 }
 
 /// The same, 64 states at a time.
-pub fn many_at_once(rule: &[u32], history: &[u16]) -> Result<Option<usize>, No> {
+pub fn many_at_once<W: Set>(rule: &[W], history: &[u16]) -> Result<Option<usize>, No> {
     let d = Decoded::new(&ask(rule, history)?);
-    let (mut values, mut carry) = ([0; 32], [0; 32]);
-    for (at, bit) in carry.iter_mut().enumerate() {
-        *bit = (d.weak >> at & 1) as u64;
+    let (mut values, mut carry) = (W::table(0), W::table(0));
+    for (at, bit) in carry.as_mut().iter_mut().enumerate() {
+        *bit = !(from_bit(d.weak, at as u8) & W::from(1)).is_empty() as u64;
     }
     let mut found = None;
     let mut any = 0;

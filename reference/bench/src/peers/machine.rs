@@ -1,5 +1,6 @@
 //! The run over decoded lines, and the single step over stored ones.
-use super::rule::{bit, IMPLIES, SINCE, WEAK_PREVIOUS};
+use super::form::Set;
+use super::rule::{kind_of, IMPLIES, SINCE, WEAK_PREVIOUS};
 use super::script::{check_script, is_allowed, ANNOTATED};
 use super::{numbers_small, No};
 
@@ -26,15 +27,15 @@ pub struct Ran {
 }
 
 /// Questions 1 to 11, and 15 of the inputs, then the steps.
-pub fn run(words: &[u32], script: &[u32], inputs: &[u16], budget: u64, history: &mut [u16]) -> Result<Ran, No> {
+pub fn run<W: Set>(words: &[W], script: &[W], inputs: &[u16], budget: u64, history: &mut [u16]) -> Result<Ran, No> {
     let (rule, _) = check_script(words, script)?;
     numbers_small(inputs)?;
     let mut lines = [Line::default(); 1024];
     for (line, stored) in lines.iter_mut().zip(script.chunks_exact(8)) {
-        *line = decode(stored[0]);
+        *line = decode(stored[0].instruction());
     }
     let mut r = [0u16; 16];
-    let (mut kept, mut work) = (rule.weak, 0u32);
+    let (mut kept, mut work) = (rule.weak, W::default());
     let (mut line, mut read, mut presentations, mut steps) = (0, 0, 0, 0);
     let stop = loop {
         let l = lines[line & 1023];
@@ -45,7 +46,7 @@ pub fn run(words: &[u32], script: &[u32], inputs: &[u16], budget: u64, history: 
             break 2;
         }
         let k = l.r as usize & 15;
-        let node = bit(l.c as usize);
+        let node = W::bit(l.c as usize);
         // a jump for each way, so that the next line is guessed and not waited for
         let goes = match l.op {
             1 => {
@@ -79,8 +80,8 @@ pub fn run(words: &[u32], script: &[u32], inputs: &[u16], budget: u64, history: 
                 work = if l.r == 1 { work | node } else { work & !node };
                 false
             }
-            10 => kept & node != 0,
-            11 => work & node != 0,
+            10 => !(kept & node).is_empty(),
+            11 => !(work & node).is_empty(),
             13 => r[k] == r[l.c as usize & 15],
             14 => {
                 r[k] = r[k].saturating_sub(l.c);
@@ -101,19 +102,22 @@ pub fn run(words: &[u32], script: &[u32], inputs: &[u16], budget: u64, history: 
     Ok(Ran { stop, line, steps, presentations, read, registers: r })
 }
 
-/// Whether the first 32 nodes of a table that need not be a rule have number c as an operand twice.
+/// Whether the nodes of a table that need not be a rule, as many as the form allows, have number c as an operand twice. The words are looked
+/// at as they are stored, many at a time.
 #[cold]
-fn mentioned_twice(rule: &[u32], c: u32) -> bool {
-    let mentions = |&w: &u32| match (w >> 29) as u8 {
-        IMPLIES | SINCE => (w >> 6 & 31 == c) as u32 + (w >> 1 & 31 == c) as u32,
-        WEAK_PREVIOUS => (w >> 6 & 31 == c) as u32,
-        _ => 0,
+fn mentioned_twice<W: Set>(rule: &[W], c: u64) -> bool {
+    let stored = |number: u64, operand: u32| W::of_top(number << (43 - operand * W::OPERAND));
+    let is = |w: W, operand: u32| (w & stored(W::MOST_NODES as u64 - 1, operand) == stored(c, operand)) as u32;
+    let of_kind = |w: W, kind: u8| w >> (W::BITS - 3) == W::from(kind);
+    let mentions = |&w: &W| {
+        let two = of_kind(w, IMPLIES) || of_kind(w, SINCE);
+        (two || of_kind(w, WEAK_PREVIOUS)) as u32 * is(w, 1) + two as u32 * is(w, 2)
     };
-    rule.iter().take(32).map(mentions).sum::<u32>() > 1
+    rule.iter().take(W::MOST_NODES).map(mentions).sum::<u32>() > 1
 }
 
 /// One step of the machine in `state`, as `guard_step` makes it: 0, 98 or 99.
-pub fn step(rule: &[u32], script: &[u32], inputs: &[u16], history: &mut [u16], state: &mut [u64]) -> u32 {
+pub fn step<W: Set>(rule: &[W], script: &[W], inputs: &[u16], history: &mut [u16], state: &mut [u64]) -> u32 {
     let Some((counts, rest)) = state.split_first_chunk_mut::<5>() else { return 99 };
     let Some(registers) = rest.first_chunk_mut::<16>() else { return 99 };
     if registers.iter().fold(0, |a, &b| a | b) > 65_535 {
@@ -121,19 +125,20 @@ pub fn step(rule: &[u32], script: &[u32], inputs: &[u16], history: &mut [u16], s
     }
     let [line, presentations, read, kept, work] = counts;
     let Some(stored) = usize::try_from(*line).ok().and_then(|i| script.chunks_exact(8).nth(i)) else { return 0 };
-    let word = stored[0];
+    let word = stored[0].instruction();
     let l = decode(word);
     // question 6 looks at one node, and at the others only where it is no past node
-    let named = rule.get(l.c as usize).filter(|_| l.c < 32).map_or(0, |w| (w >> 29) as u8);
-    let past = if matches!(named, SINCE | WEAK_PREVIOUS) { bit(l.c as usize) } else { 0 };
-    let is_shared = past == 0 && matches!(l.op, 9 | 11) && mentioned_twice(rule, l.c as u32);
-    let shared = if is_shared { bit(l.c as usize) } else { 0 };
-    if !is_allowed(past, shared, ANNOTATED, word) {
+    let is_number = (l.c as usize) < W::MOST_NODES;
+    let named = rule.get(l.c as usize).filter(|_| is_number).map_or(0, |&w| kind_of(w));
+    let past = W::bit(l.c as usize).only_if(matches!(named, SINCE | WEAK_PREVIOUS));
+    let is_shared = past.is_empty() && matches!(l.op, 9 | 11) && is_number && mentioned_twice(rule, l.c as u64);
+    let shared = W::bit(l.c as usize).only_if(is_shared);
+    if !is_allowed(past, shared, ANNOTATED, word) || stored[0].below() != 0 {
         return 0;
     }
     let r = l.r as usize & 15;
     let c = l.c as usize;
-    let node = 1 << (63 - (c & 31));
+    let node = 1 << (63 - W::place(c));
     let target = l.target as u64;
     let next = *line + 1;
     *line = match l.op {

@@ -1,5 +1,6 @@
 //! Peers of the proved code in plain Rust: the same questions and the same answers, written for speed and not for proof.
 pub mod facts;
+pub mod form;
 pub mod judge;
 pub mod machine;
 pub mod rule;

@@ -2,6 +2,7 @@
 //! how many brackets stand open behind it. How many nodes an item adds is known when it is read: once they are too many nothing is
 //! written any more, and the rest is read for questions 16 and 17 alone. All of it is one function to the compiler, so that the place
 //! stays in a register.
+use super::form::Set;
 use super::rule::{BELOW, EQUAL, IMPLIES, SINCE, WEAK_PREVIOUS};
 use super::{no, No};
 
@@ -23,18 +24,18 @@ enum Word {
 /// How tightly each word binds, in their order.
 const LEVELS: [u8; 10] = [0, 5, 5, 5, 5, 5, 4, 3, 2, 1];
 
-struct Reader<'a> {
+struct Reader<'a, X: Set> {
     text: &'a [u8],
     at: usize,
-    nodes: [u32; 32],
+    nodes: X::Table<X>,
     /// How many are written.
     written: usize,
     /// How many the items read so far need.
     needed: usize,
     /// The words whose operand, or whose right one, has not ended; the node on their left; the brackets that stand open behind them.
-    words: [Word; 33],
-    lefts: [u8; 33],
-    brackets: [usize; 33],
+    words: X::OneMore<Word>,
+    lefts: X::OneMore<u8>,
+    brackets: X::OneMore<usize>,
     top: usize,
     /// Brackets that are open.
     open: usize,
@@ -42,11 +43,11 @@ struct Reader<'a> {
     out_of_range: usize,
 }
 
-const fn joined(kind: u8, left: u8, right: u8) -> u32 {
-    (kind as u32) << 29 | (left as u32) << 6 | (right as u32) << 1
+fn joined<X: Set>(kind: u8, left: u8, right: u8) -> X {
+    X::of_top((kind as u64) << 61 | (left as u64) << (43 - X::OPERAND) | (right as u64) << (43 - 2 * X::OPERAND))
 }
 
-impl Reader<'_> {
+impl<X: Set> Reader<'_, X> {
     #[inline(always)]
     fn byte(&self) -> u8 {
         // no byte of the grammar
@@ -108,21 +109,26 @@ impl Reader<'_> {
     }
 
     #[inline(always)]
-    fn put(&mut self, node: u32) {
-        self.nodes[self.written & 31] = node;
+    fn put(&mut self, node: X) {
+        self.nodes.as_mut()[X::place(self.written)] = node;
         self.written += 1;
+    }
+
+    #[inline(always)]
+    fn put_false(&mut self) {
+        self.put(X::default());
     }
 
     /// Puts an implies of a node and false.
     #[inline(always)]
     fn put_not(&mut self, of: u8) {
-        self.put(0);
+        self.put_false();
         self.put(joined(IMPLIES, of, of + 1));
     }
 
     #[inline(always)]
     fn put_true(&mut self) {
-        self.put(0);
+        self.put_false();
         self.put_not(self.written as u8 - 1);
     }
 
@@ -130,26 +136,26 @@ impl Reader<'_> {
     #[inline(always)]
     fn room(&mut self, nodes: usize) -> bool {
         self.needed += nodes;
-        self.needed <= 32
+        self.needed <= X::MOST_NODES
     }
 
     #[inline(always)]
     fn wait(&mut self, word: Word) {
         self.top += 1;
-        self.words[self.top] = word;
-        self.lefts[self.top] = (self.written as u8).wrapping_sub(1);
-        self.brackets[self.top] = 0;
+        self.words.as_mut()[self.top] = word;
+        self.lefts.as_mut()[self.top] = (self.written as u8).wrapping_sub(1);
+        self.brackets.as_mut()[self.top] = 0;
     }
 
     /// The words of this level or a higher one have all their operands: their nodes follow.
     #[inline(always)]
     fn end(&mut self, level: u8) {
         loop {
-            let word = self.words[self.top];
-            if LEVELS[word as usize] < level || self.brackets[self.top] > 0 {
+            let word = self.words.as_ref()[self.top];
+            if LEVELS[word as usize] < level || self.brackets.as_ref()[self.top] > 0 {
                 return;
             }
-            let left = self.lefts[self.top];
+            let left = self.lefts.as_ref()[self.top];
             self.top -= 1;
             let right = self.written as u8 - 1;
             match word {
@@ -182,7 +188,7 @@ impl Reader<'_> {
     fn close(&mut self, mut count: usize) {
         while count > 0 {
             self.end(1);
-            let brackets = &mut self.brackets[self.top];
+            let brackets = &mut self.brackets.as_mut()[self.top];
             let closed = count.min(*brackets);
             *brackets -= closed;
             count -= closed;
@@ -229,7 +235,7 @@ impl Reader<'_> {
         self.skip_spaces();
         let constant = self.number(16_383)?;
         if self.room(1) {
-            self.put((kind as u32) << 29 | register << 25 | constant << 11);
+            self.put(X::of_top((kind as u64) << 61 | (register as u64) << 57 | (constant as u64) << 43));
         }
         Ok(())
     }
@@ -243,7 +249,7 @@ impl Reader<'_> {
                 b'(' => {
                     let count = self.run(b'(');
                     self.open += count;
-                    self.brackets[self.top] += count;
+                    self.brackets.as_mut()[self.top] += count;
                 }
                 b'r' => return self.test(),
                 b't' => {
@@ -256,7 +262,7 @@ impl Reader<'_> {
                 b'f' => {
                     self.word(b"false")?;
                     if self.room(1) {
-                        self.put(0);
+                        self.put_false();
                     }
                     return Ok(());
                 }
@@ -283,7 +289,7 @@ impl Reader<'_> {
                         return no(16, start + self.open);
                     }
                     self.open -= count;
-                    if self.needed <= 32 {
+                    if self.needed <= X::MOST_NODES {
                         self.close(count);
                     }
                 }
@@ -299,16 +305,16 @@ impl Reader<'_> {
 }
 
 /// Questions 16, 17, 18 and 13, then the nodes.
-pub fn read_text(text: &[u8], out: &mut [u32]) -> Result<usize, No> {
-    let mut r = Reader {
+pub fn read_text<X: Set>(text: &[u8], out: &mut [X]) -> Result<usize, No> {
+    let mut r: Reader<X> = Reader {
         text,
         at: 0,
-        nodes: [0; 32],
+        nodes: X::table(X::default()),
         written: 0,
         needed: 0,
-        words: [Word::Start; 33],
-        lefts: [0; 33],
-        brackets: [0; 33],
+        words: X::one_more(Word::Start),
+        lefts: X::one_more(0),
+        brackets: X::one_more(0),
         top: 0,
         open: 0,
         out_of_range: usize::MAX,
@@ -320,13 +326,13 @@ pub fn read_text(text: &[u8], out: &mut [u32]) -> Result<usize, No> {
     if r.out_of_range < usize::MAX {
         return no(17, r.out_of_range);
     }
-    if r.needed > 32 {
+    if r.needed > X::MOST_NODES {
         return no(18, 0);
     }
     r.end(1);
     if out.len() < r.written {
         return no(13, 0);
     }
-    out[..r.written].copy_from_slice(&r.nodes[..r.written]);
+    out[..r.written].copy_from_slice(&r.nodes.as_ref()[..r.written]);
     Ok(r.written)
 }
