@@ -21,6 +21,7 @@ use Rattle.spec.specs.Judging.{question15}
 use Rattle.spec.specs.Script.{Source, constant, copyOf, plus, nextInput, minus, Instruction, halt, write, branch, goto, present, setWork, keep, instructionAt, fieldsFor, annotatedOpcode}
 use Rattle.spec.specs.Check.{linesOf, codeOf, annotatedStored}
 use Rattle.spec.specs.Machine.{Machine, raised, lowered, written, fresh, freshOf, Stop, stops, move, unlessStopped, step, tableWithin, canRun, stepOf, Ended, running}
+use Rattle.spec.specs.Ready.{freshStateOf, stateAfter}
 use Rattle.spec.specs.Promise.{after}
 use Rattle.spec.proofs.BoolLaws.{and-both, le-or-lt}
 use Rattle.spec.proofs.QuestionLaws.{ask-out}
@@ -134,7 +135,7 @@ module _ (form : Form) (rule script inputs lent : List ℕ) (asked : question15 
 
   -- for any script, accepted or not
   pub after-within : (n : ℕ) → Within (after form n rule script inputs lent .registers)
-  unfolding after freshOf fresh
+  unfolding after stateAfter freshStateOf freshOf fresh
   after-within zero = zeros-within 16
   after-within (suc n) = step-within (after form n rule script inputs lent) (after-within n)
 
