@@ -1,7 +1,7 @@
 -- A rule and a script moved to the second form: judging, the fresh start, a step and a run are the same.
 --     judging-widen                           every verdict and refusal of a judging
 --     within-widen, fresh-within, step-within   the nodes that a machine looks at, for a rule of any length
---     fresh-widen, step-widen, after-widen    the fresh start, a step, any number of steps
+--     fresh-widen, step-widen, after-widen    the fresh start, a step, any number of steps, as ready
 --     running-widen                           a run
 -- Assumes nothing.
 use mathlib.Core.Path.{_≡_, sym, ap, ap₂, _∙_}
@@ -16,10 +16,10 @@ use lib.Dec.{ltb}
 use Rattle.spec.specs.Questions.{passed, _then_}
 use Rattle.spec.specs.Rule.{form32, form64, tableOf}
 use Rattle.spec.specs.Judging.{statesOf, question14, question15, verdictOn, judging}
-use Rattle.spec.specs.Script.{annotatedOpcode, lineAllowed}
+use Rattle.spec.specs.Script.{annotatedOpcode, lineAllowed, instructionAt}
 use Rattle.spec.specs.Check.{codeOf}
-use Rattle.spec.specs.Machine.{Machine, fresh, step, run, tableWithin, freshOf, canRun, stepOf, running}
-use Rattle.spec.specs.Promise.{after}
+use Rattle.spec.specs.Machine.{fresh, step, run, tableWithin, freshOf, canRun, stepOf, running}
+use Rattle.spec.specs.Ready.{MachineState, firstReadiness, readyActing, freshStateOf, readyStepOf, stateStepOf, stateAfter}
 use Rattle.moves.specs.Moves.{widenNode, widenRule, widenScript}
 use Rattle.moves.proofs.NodeMoveLaws.{table-widen, check-widen}
 use Rattle.moves.proofs.LineMoveLaws.{lines-widen, stored-widen, script-widen}
@@ -38,36 +38,45 @@ within-widen rule =
     let few : length (widenRule first) ≤ 64 = omega (arith, length-map first widenNode, length-take 32 rule, min-le-left 32 (length rule)) in
     ap (tableOf form64) (take-all 64 (widenRule first) few) ∙ table-widen first
 
-pub fresh-within : (rule lent : List ℕ) → freshOf form64 (widenRule (take 32 rule)) lent ≡ freshOf form32 rule lent
-unfolding freshOf
-fresh-within rule lent = ap (λ t. fresh t lent) (within-widen rule)
+pub fresh-within : (rule lent : List ℕ) → freshStateOf form64 (widenRule (take 32 rule)) lent ≡ freshStateOf form32 rule lent
+unfolding freshStateOf freshOf
+fresh-within rule lent = let t = within-widen rule in λ i. record { machine = fresh (t i) lent; readiness = firstReadiness (t i) }
 
 can-run-within : (rule ws : List ℕ) (l : ℕ) → canRun form64 (widenRule (take 32 rule)) (widenScript ws) l ≡ canRun form32 rule ws l
 unfolding canRun
 can-run-within rule ws l = ap₂ (λ t s. ltb l (s .lineCount) && lineAllowed t annotatedOpcode s l) (within-widen rule) (stored-widen ws)
 
-pub step-within : (rule ws inputs : List ℕ) (m : Machine)
-    → stepOf form64 (widenRule (take 32 rule)) (widenScript ws) inputs m ≡ stepOf form32 rule ws inputs m
-unfolding stepOf
-step-within rule ws inputs m =
-    ap₂ (λ (b : Bool) ls. cond b (step (codeOf ls) inputs m) m) (can-run-within rule ws (m .line)) (lines-widen ws)
+pub step-within : (rule ws inputs : List ℕ) (x : MachineState)
+    → stateStepOf form64 (widenRule (take 32 rule)) (widenScript ws) inputs x ≡ stateStepOf form32 rule ws inputs x
+unfolding stepOf readyStepOf
+step-within rule ws inputs x =
+    let m = x .machine in
+    let b = can-run-within rule ws (m .line) in
+    let code = ap codeOf (lines-widen ws) in
+    let t = within-widen rule in
+    λ i. record {
+      machine = cond (b i) (step (code i) inputs m) m;
+      readiness = cond (b i) (readyActing (t i) inputs (instructionAt (code i) (m .line)) m (x .readiness)) (x .readiness);
+    }
 
 -- ---- a rule of at most 32 nodes
 
 module _ (rule : List ℕ) (few : length rule ≤ 32) where
-  pub fresh-widen : (lent : List ℕ) → freshOf form64 (widenRule rule) lent ≡ freshOf form32 rule lent
-  fresh-widen lent = ap (λ r. freshOf form64 (widenRule r) lent) (sym (take-all 32 rule few)) ∙ fresh-within rule lent
+  pub fresh-widen : (lent : List ℕ) → freshStateOf form64 (widenRule rule) lent ≡ freshStateOf form32 rule lent
+  fresh-widen lent = ap (λ r. freshStateOf form64 (widenRule r) lent) (sym (take-all 32 rule few)) ∙ fresh-within rule lent
 
-  pub step-widen : (ws inputs : List ℕ) (m : Machine) → stepOf form64 (widenRule rule) (widenScript ws) inputs m ≡ stepOf form32 rule ws inputs m
-  step-widen ws inputs m =
-      ap (λ r. stepOf form64 (widenRule r) (widenScript ws) inputs m) (sym (take-all 32 rule few)) ∙ step-within rule ws inputs m
+  pub step-widen : (ws inputs : List ℕ) (x : MachineState)
+      → stateStepOf form64 (widenRule rule) (widenScript ws) inputs x ≡ stateStepOf form32 rule ws inputs x
+  step-widen ws inputs x =
+      ap (λ r. stateStepOf form64 (widenRule r) (widenScript ws) inputs x) (sym (take-all 32 rule few)) ∙ step-within rule ws inputs x
 
   pub after-widen : (ws : List ℕ) (n : ℕ) (inputs lent : List ℕ)
-      → after form64 n (widenRule rule) (widenScript ws) inputs lent ≡ after form32 n rule ws inputs lent
-  unfolding after
+      → stateAfter form64 n (widenRule rule) (widenScript ws) inputs lent ≡ stateAfter form32 n rule ws inputs lent
+  unfolding stateAfter
   after-widen ws zero inputs lent = fresh-widen lent
   after-widen ws (suc n) inputs lent =
-      ap (stepOf form64 (widenRule rule) (widenScript ws) inputs) (after-widen ws n inputs lent) ∙ step-widen ws inputs (after form32 n rule ws inputs lent)
+      ap (stateStepOf form64 (widenRule rule) (widenScript ws) inputs) (after-widen ws n inputs lent)
+      ∙ step-widen ws inputs (stateAfter form32 n rule ws inputs lent)
 
   pub running-widen : (ws inputs : List ℕ) (budget : ℕ) (lent : List ℕ)
       → running form64 (widenRule rule) (widenScript ws) inputs budget lent ≡ running form32 rule ws inputs budget lent

@@ -10,9 +10,10 @@ use Rattle.spec.specs.Rule.{form32, form64, tableOf, ruleOf, checkRule}
 use Rattle.spec.specs.Judging.{judging}
 use Rattle.spec.specs.Script.{checkWords, checkBare}
 use Rattle.spec.specs.Check.{linesOf, checkScript}
-use Rattle.spec.specs.Machine.{Machine, freshOf, stepOf, running}
+use Rattle.spec.specs.Machine.{running}
+use Rattle.spec.specs.Ready.{MachineState, freshStateOf, stateStepOf, stateAfter}
 use Rattle.spec.specs.Weaver.{woven, weaving, outputAfter}
-use Rattle.spec.specs.Promise.{Weavable, after}
+use Rattle.spec.specs.Promise.{Weavable}
 use Rattle.largest.specs.Largest.{checkInstructions, foundWords, foundAnswer, foundOutput}
 use Rattle.moves.specs.Moves.{widenRule, narrowRule, widenScript, narrowScript, checkBack, checkMove, checkScriptUp, checkScriptBack, nodeCount, lineCount, ruleUp, ruleBack, scriptUp, scriptBack, ruleUpOutput, ruleBackOutput, scriptUpOutput, scriptBackOutput}
 
@@ -33,8 +34,8 @@ pub record SameRule (old wide : List ℕ) : Type 0 where
   pub words : (allowed : ℕ → Bool) (ws : List ℕ) → checkWords form64 allowed wide ws ≡ checkWords form32 allowed old ws
   -- every history gets the same verdict or refusal
   pub judged : (history : List ℕ) → judging form64 wide history ≡ judging form32 old history
-  -- the machine starts as the same machine
-  pub fresh : (lent : List ℕ) → freshOf form64 wide lent ≡ freshOf form32 old lent
+  -- the machine starts in the same state, as ready (2026-08)
+  pub fresh : (lent : List ℕ) → freshStateOf form64 wide lent ≡ freshStateOf form32 old lent
   -- weaving has the same answer where the outputs are as long; the words woven are the moved words, and so is what the output holds
   pub weaves : (bare out wideOut : List ℕ) → length wideOut ≡ length out → weaving form64 wide bare wideOut ≡ weaving form32 old bare out
   pub weavesWords : (bare : List ℕ) → Weavable form32 old bare → woven form64 wide bare ≡ widenScript (woven form32 old bare)
@@ -52,9 +53,9 @@ pub record SameScript (old wide script wideScript : List ℕ) : Type 0 where
   -- questions 1 to 11 have the same answer; so have 5 to 8 of a move
   pub asked : checkScript form64 wide wideScript ≡ checkScript form32 old script
   pub askedToMove : checkMove form64 wide wideScript ≡ checkMove form32 old script
-  -- a step, and any number of steps from a fresh start, leave the same machine
-  pub stepped : (inputs : List ℕ) (m : Machine) → stepOf form64 wide wideScript inputs m ≡ stepOf form32 old script inputs m
-  pub afterSteps : (n : ℕ) (inputs lent : List ℕ) → after form64 n wide wideScript inputs lent ≡ after form32 n old script inputs lent
+  -- a step, and any number of steps from a fresh start, leave the same state, as ready (2026-08)
+  pub stepped : (inputs : List ℕ) (x : MachineState) → stateStepOf form64 wide wideScript inputs x ≡ stateStepOf form32 old script inputs x
+  pub afterSteps : (n : ℕ) (inputs lent : List ℕ) → stateAfter form64 n wide wideScript inputs lent ≡ stateAfter form32 n old script inputs lent
   -- a run ends the same, or has the same refusal
   pub ran : (inputs : List ℕ) (budget : ℕ) (lent : List ℕ) → running form64 wide wideScript inputs budget lent ≡ running form32 old script inputs budget lent
 

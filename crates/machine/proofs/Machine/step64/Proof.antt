@@ -1,12 +1,13 @@
--- `machine::Machine::step64` meets its contract: no more nodes are looked at than the form allows (`StepLaws.step-cut`). Assumes nothing.
+-- `machine::Machine::step64` meets its contract: no more nodes are looked at than the form allows (`ReadyLaws.state-cut`). Assumes nothing.
 use mathlib.Core.Path.{refl, sym, subst, ap, _∙_}
 use Prim.Native.Nat.{_≤_}
 use lib.ListN.{length}
 use lib.Seq.{length-take-le}
 use Rattle.spec.specs.Rule.{form64}
-use Rattle.spec.specs.Machine.{stepOf}
-use Rattle.machine.specs.Machines.{machineOf}
-use Rattle.machine.proofs.StepLaws.{few-cut, step-cut}
+use Rattle.spec.specs.Ready.{stateStepOf}
+use Rattle.machine.specs.Machines.{stateOf}
+use Rattle.machine.proofs.StepLaws.{few-cut}
+use Rattle.machine.proofs.ReadyLaws.{state-cut}
 use borrow.Author.Needs.{needs}
 use Rattle.machine.proofs.Machine.step64.Statement.{statement}
 use Rattle.machine.proofs.Machine.step64.Tie as tie
@@ -32,7 +33,7 @@ same-length c = search needs
 
 returns : tie.Need-returns
 unfolding form64
-returns c = let a = c .before .before .before .before .before .before .before .before .before .before .before .before .args in c .before .before .step-in .ensures ∙ ap (λ r. stepOf form64 r (a .script .now) (a .inputs .now) (machineOf (a .self) (a .history .now))) (c .before .before .before .before .before .before .before .at-most .ensures .2 (a .rule .now) refl) ∙ step-cut form64 (a .rule .now) (a .script .now) (a .inputs .now) (machineOf (a .self) (a .history .now))
+returns c = let a = c .before .before .before .before .before .before .before .before .before .before .before .before .args in c .before .before .step-in .ensures ∙ ap (λ r. stateStepOf form64 r (a .script .now) (a .inputs .now) (stateOf (a .self) (a .history .now))) (c .before .before .before .before .before .before .before .at-most .ensures .2 (a .rule .now) refl) ∙ state-cut form64 (a .rule .now) (a .script .now) (a .inputs .now) (stateOf (a .self) (a .history .now))
 
 pub step64-spec : {M : Type 1} → statement M
 step64-spec =

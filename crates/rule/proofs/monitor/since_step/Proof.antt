@@ -5,7 +5,7 @@ use mathlib.Core.Bool.{Bool, true, false}
 use native.Mathlib.Omega.{arith}
 use lib.Dec.{eqb}
 use mir.Val.{boolByte}
-use Rattle.rule.specs.Monitor.{sinceStep}
+use Rattle.spec.specs.Monitor.{sinceStep}
 use borrow.Author.Needs.{needs}
 use Rattle.rule.proofs.monitor.since_step.Statement.{statement}
 use Rattle.rule.proofs.monitor.since_step.Tie as tie
