@@ -12,7 +12,7 @@ use numbers::notes::note_report;
 use numbers::notes::note_verdict;
 use numbers::states::put_machine;
 use numbers::states::read_machine;
-use numbers::states::registers_fit;
+use numbers::states::state_fits;
 use rule::check_rule;
 use rule::verdict;
 use script::check_bare;
@@ -26,7 +26,8 @@ ghost use Rattle.spec.specs.Rule.{form32, checkRule};
 ghost use Rattle.spec.specs.Judging.{judging};
 ghost use Rattle.spec.specs.Script.{checkBare};
 ghost use Rattle.spec.specs.Check.{checkScript};
-ghost use Rattle.spec.specs.Machine.{freshOf, running, reportOf, historyAfter};
+ghost use Rattle.spec.specs.Ready.{freshStateOf};
+ghost use Rattle.spec.specs.Machine.{running, reportOf, historyAfter};
 ghost use Rattle.spec.specs.Weaver.{weaving, outputAfter};
 ghost use Rattle.largest.specs.Largest.{foundAnswer, foundOutput};
 ghost use Rattle.grammar.specs.Texting.{texting, countOf, outputOf};
@@ -153,20 +154,22 @@ pub extern "C" fn guard_run(
     note_report(run(rule, script, inputs, budget, history), numbers)
 }
 
-// The machine at a fresh start. 21 words: line, presentations, inputs read, kept bits, work bits, 16 registers.
+// The machine at a fresh start. 25 words: line, presentations, inputs read, kept bits, work bits, 16 registers, ready, priors, next priors,
+// the registers that the rule reads.
 #[no_mangle]
 pub extern "C" fn guard_fresh(rule: &[u32], state: &mut [u64]) -> u32
     ensures result { λ r. ⌜ r ≡ cond (roomFor stateLength (now (state .entry))) 0 tooShort ⌝ }
-    ensures words { λ r. ⌜ now (state .exit) ≡ withWords stateLength (stateWords (freshOf form32 (now (rule .entry)) [])) (now (state .entry)) ⌝ }
+    ensures words { λ r. ⌜ now (state .exit) ≡ withWords stateLength (stateWords (freshStateOf form32 (now (rule .entry)) [])) (now (state .entry)) ⌝ }
 {
-    if state.len() < 21 {
+    if state.len() < 25 {
         return 99;
     }
     put_machine(Machine::fresh(rule), state);
     0
 }
 
-// One step from the machine in `state` to the next, in its place. A register that does not fit leaves everything as it was: 98.
+// One step from the machine in `state` to the next, in its place. A register above 65,535, or ready above 1, leaves everything as it
+// was: 98.
 #[no_mangle]
 pub extern "C" fn guard_step(
     rule: &[u32],
@@ -177,12 +180,12 @@ pub extern "C" fn guard_step(
 ) -> u32
     ensures result { λ r. ⌜ r ≡ stepResult (now (state .entry)) ⌝ }
     ensures words { λ r. ⌜ now (state .exit) ≡ cond (isStated (now (state .entry))) (stateWords (stepped form32 (now (rule .entry)) (now (script .entry)) (now (inputs .entry)) (now (state .entry)) (now (history .entry))) ++ drop stateLength (now (state .entry))) (now (state .entry)) ⌝ }
-    ensures left { λ r. ⌜ now (history .exit) ≡ cond (isStated (now (state .entry))) (stepped form32 (now (rule .entry)) (now (script .entry)) (now (inputs .entry)) (now (state .entry)) (now (history .entry)) .history) (now (history .entry)) ⌝ }
+    ensures left { λ r. ⌜ now (history .exit) ≡ cond (isStated (now (state .entry))) (stepped form32 (now (rule .entry)) (now (script .entry)) (now (inputs .entry)) (now (state .entry)) (now (history .entry)) .machine .history) (now (history .entry)) ⌝ }
 {
-    if state.len() < 21 {
+    if state.len() < 25 {
         return 99;
     }
-    if !registers_fit(&state[..]) {
+    if !state_fits(&state[..]) {
         return 98;
     }
     let before = read_machine(&state[..]);

@@ -11,7 +11,7 @@ use numbers::notes::note_report;
 use numbers::notes::note_verdict;
 use numbers::states::put_machine;
 use numbers::states::read_machine;
-use numbers::states::registers_fit;
+use numbers::states::state_fits;
 use rule::check_rule64;
 use rule::verdict64;
 use script::check_bare64;
@@ -25,7 +25,8 @@ ghost use Rattle.spec.specs.Rule.{form64, checkRule};
 ghost use Rattle.spec.specs.Judging.{judging};
 ghost use Rattle.spec.specs.Script.{checkBare};
 ghost use Rattle.spec.specs.Check.{checkScript};
-ghost use Rattle.spec.specs.Machine.{freshOf, running, reportOf, historyAfter};
+ghost use Rattle.spec.specs.Ready.{freshStateOf};
+ghost use Rattle.spec.specs.Machine.{running, reportOf, historyAfter};
 ghost use Rattle.spec.specs.Weaver.{weaving, outputAfter};
 ghost use Rattle.largest.specs.Largest.{foundAnswer, foundOutput};
 ghost use Rattle.grammar.specs.Texting.{texting, countOf, outputOf};
@@ -146,9 +147,9 @@ pub extern "C" fn guard_run64(
 #[no_mangle]
 pub extern "C" fn guard_fresh64(rule: &[u64], state: &mut [u64]) -> u32
     ensures result { λ r. ⌜ r ≡ cond (roomFor stateLength (now (state .entry))) 0 tooShort ⌝ }
-    ensures words { λ r. ⌜ now (state .exit) ≡ withWords stateLength (stateWords (freshOf form64 (now (rule .entry)) [])) (now (state .entry)) ⌝ }
+    ensures words { λ r. ⌜ now (state .exit) ≡ withWords stateLength (stateWords (freshStateOf form64 (now (rule .entry)) [])) (now (state .entry)) ⌝ }
 {
-    if state.len() < 21 {
+    if state.len() < 25 {
         return 99;
     }
     put_machine(Machine::fresh64(rule), state);
@@ -165,12 +166,12 @@ pub extern "C" fn guard_step64(
 ) -> u32
     ensures result { λ r. ⌜ r ≡ stepResult (now (state .entry)) ⌝ }
     ensures words { λ r. ⌜ now (state .exit) ≡ cond (isStated (now (state .entry))) (stateWords (stepped form64 (now (rule .entry)) (now (script .entry)) (now (inputs .entry)) (now (state .entry)) (now (history .entry))) ++ drop stateLength (now (state .entry))) (now (state .entry)) ⌝ }
-    ensures left { λ r. ⌜ now (history .exit) ≡ cond (isStated (now (state .entry))) (stepped form64 (now (rule .entry)) (now (script .entry)) (now (inputs .entry)) (now (state .entry)) (now (history .entry)) .history) (now (history .entry)) ⌝ }
+    ensures left { λ r. ⌜ now (history .exit) ≡ cond (isStated (now (state .entry))) (stepped form64 (now (rule .entry)) (now (script .entry)) (now (inputs .entry)) (now (state .entry)) (now (history .entry)) .machine .history) (now (history .entry)) ⌝ }
 {
-    if state.len() < 21 {
+    if state.len() < 25 {
         return 99;
     }
-    if !registers_fit(&state[..]) {
+    if !state_fits(&state[..]) {
         return 98;
     }
     let before = read_machine(&state[..]);

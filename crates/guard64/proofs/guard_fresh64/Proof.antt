@@ -4,7 +4,7 @@ use mathlib.Core.List.{List, [], _++_}
 use Prim.Native.Nat.{ℕ}
 use lib.ListN.{drop}
 use Rattle.spec.specs.Rule.{form64}
-use Rattle.spec.specs.Machine.{Machine, freshOf}
+use Rattle.spec.specs.Ready.{MachineState, freshStateOf}
 use Rattle.numbers.specs.States.{stateWords}
 use Rattle.numbers.proofs.NoteLaws.{room, no-room, words-room, words-no-room}
 use borrow.Author.Needs.{needs}
@@ -14,7 +14,7 @@ use Rattle.guard64.proofs.guard_fresh64.Tie as tie
 returns : tie.Need-returns
 returns c =
     let s = c .before .before .before .args .state .now in
-    (no-room 21 s (c .if1 .taken) 0 99, words-no-room 21 s (c .if1 .taken) (stateWords (freshOf form64 (c .before .before .before .args .rule .now) [])))
+    (no-room 25 s (c .if1 .taken) 0 99, words-no-room 25 s (c .if1 .taken) (stateWords (freshStateOf form64 (c .before .before .before .args .rule .now) [])))
 
 fresh64-requires : tie.Need-fresh64-requires
 fresh64-requires c κs = search needs
@@ -29,9 +29,9 @@ returns-2 : tie.Need-returns-2
 returns-2 c =
     let s = c .before .before .before .before .before .before .before .before .args .state .now in
     let h = c .before .before .before .before .before .if1 .left in (
-      room 21 s h 0 99,
-      c .before .before .put-machine .ensures [] ∙ ap (λ (m : Machine). stateWords m ++ drop 21 s) (c .before .before .before .before .fresh64 .ensures [])
-          ∙ words-room 21 s h (stateWords (freshOf form64 (c .before .before .before .before .before .before .before .before .args .rule .now) [])),
+      room 25 s h 0 99,
+      c .before .before .put-machine .ensures [] ∙ ap (λ (x : MachineState). stateWords x ++ drop 25 s) (c .before .before .before .before .fresh64 .ensures [])
+          ∙ words-room 25 s h (stateWords (freshStateOf form64 (c .before .before .before .before .before .before .before .before .args .rule .now) [])),
     )
 
 pub guard-fresh64-spec : {M : Type 1} → statement M

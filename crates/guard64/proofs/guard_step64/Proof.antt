@@ -1,32 +1,31 @@
--- `guard64::guard_step64` meets its contract. Assumes nothing.
+-- `guard64::guard_step64` meets its contract (`StateLaws`). Assumes nothing.
 use mathlib.Core.Path.{sym, ap, _∙_}
-use mathlib.Core.List.{List, _++_}
-use lib.ListN.{drop}
 use borrow.Author.Tests.{not-true, not-false}
 use Rattle.spec.specs.Rule.{form64}
-use Rattle.spec.specs.Machine.{Machine, stepOf}
-use Rattle.machine.specs.Machines.{machineOf}
-use Rattle.numbers.specs.States.{stateWords, machineIn, stepped}
-use Rattle.numbers.proofs.StateLaws.{short, large, stated}
+use Rattle.spec.specs.Ready.{stateStepOf}
+use Rattle.numbers.proofs.StateLaws.{step-short, step-large, step-made}
 use borrow.Author.Needs.{needs}
 use Rattle.guard64.proofs.guard_step64.Statement.{statement}
 use Rattle.guard64.proofs.guard_step64.Tie as tie
 
 returns : tie.Need-returns
-returns c = let (number, unmade) = short (c .before .before .before .before .before .before .args .state .now) (c .if1 .taken) in (number, (rw unmade, rw unmade))
+returns c =
+    let a = c .before .before .before .before .before .before .args in step-short form64 (a .rule .now) (a .script .now) (a .inputs .now) (a .state .now) (a .history .now) (c .if1 .taken)
 
-registers-fit-requires : tie.Need-registers-fit-requires
-registers-fit-requires c κs = search needs
+state-fits-requires : tie.Need-state-fits-requires
+state-fits-requires c κs = search needs
 
 same-length : tie.Need-same-length
 same-length c = search needs
 
 returns-2 : tie.Need-returns-2
 returns-2 c =
-    let (number, unmade) = large (c .before .before .before .before .before .before .before .before .before .args .state .now) (c .before .before .before .if1 .left) (sym (c .before .registers-fit .ensures) ∙ not-true _ (c .if2 .taken)) in (number, (rw unmade, rw unmade))
+    let a = c .before .before .before .before .before .before .before .before .before .args in
+    step-large form64 (a .rule .now) (a .script .now) (a .inputs .now) (a .state .now) (a .history .now) (c .before .before .before .if1 .left)
+    (sym (c .before .state-fits .ensures) ∙ not-true _ (c .if2 .taken))
 
 read-machine-requires : tie.Need-read-machine-requires
-read-machine-requires c κs = (c .before .before .before .before .if1 .left, sym (c .before .before .registers-fit .ensures) ∙ not-false _ (c .before .if2 .left))
+read-machine-requires c κs = (c .before .before .before .before .if1 .left, sym (c .before .before .state-fits .ensures) ∙ not-false _ (c .before .if2 .left))
 
 step64-requires : tie.Need-step64-requires
 step64-requires c κs = search needs
@@ -43,24 +42,16 @@ same-length-3 c = search needs
 returns-3 : tie.Need-returns-3
 returns-3 c =
     let a = c .before .before .before .before .before .before .before .before .before .before .before .before .before .before .before .before .before .before .before .args in
-    let s = a .state .now in
-    let h = a .history .now in
-    let m = c .before .before .before .before .before .before .step64 in
-    let e = m .ensures ∙ ap (stepOf form64 (a .rule .now) (a .script .now) (a .inputs .now)) (c .before .before .before .before .before .before .before .before .read-machine .ensures h) in
-    let (number, made) = stated s (c .before .before .before .before .before .before .before .before .before .before .before .before .before .if1 .left) (sym (c .before .before .before .before .before .before .before .before .before .before .before .registers-fit .ensures) ∙ not-false _ (c .before .before .before .before .before .before .before .before .before .before .if2 .left)) in (
-      number,
-      (
-        c .before .before .put-machine .ensures _ ∙ ap (λ (x : Machine). stateWords x ++ drop 21 s) e ∙ rw made,
-        ap (λ (x : Machine). x .history) e ∙ rw made,
-      ),
-    )
+    let made = c .before .before .before .before .before .before .step64 .ensures ∙ ap (stateStepOf form64 (a .rule .now) (a .script .now) (a .inputs .now)) (c .before .before .before .before .before .before .before .before .read-machine .ensures (a .history .now)) in
+    step-made form64 (a .rule .now) (a .script .now) (a .inputs .now) (a .state .now) (a .history .now) (c .before .before .before .before .before .before .before .before .before .before .before .before .before .if1 .left)
+    (sym (c .before .before .before .before .before .before .before .before .before .before .before .state-fits .ensures) ∙ not-false _ (c .before .before .before .before .before .before .before .before .before .before .if2 .left)) _ made _ (c .before .before .put-machine .ensures _)
 
 pub guard-step64-spec : {M : Type 1} → statement M
 guard-step64-spec =
     tie.close
     (tie.spec
     returns
-    registers-fit-requires
+    state-fits-requires
     same-length
     returns-2
     read-machine-requires

@@ -10,8 +10,9 @@ use lib.Seq.{take-suc, take-suc-set, take-all, getD-drop}
 use borrow.Author.Tests.{leb-true}
 use Rattle.spec.specs.Check.{nodesIn}
 use Rattle.spec.specs.Machine.{machine}
+use Rattle.spec.proofs.BoolLaws.{and-both}
 use Rattle.spec.proofs.QuestionLaws.{below-out}
-use Rattle.numbers.specs.States.{registersFit, machineIn}
+use Rattle.numbers.specs.States.{registersFit, stateFits, machineIn}
 use borrow.Author.Needs.{needs}
 use Rattle.numbers.proofs.states.read_machine.Statement.{statement}
 use Rattle.numbers.proofs.states.read_machine.Tie as tie
@@ -35,11 +36,11 @@ shared-slice-read-registers : tie.Need-shared-slice-read-registers Inv-loop μ-l
 shared-slice-read-registers c = search needs
 
 cast-registers : tie.Need-cast-registers Inv-loop μ-loop
-unfolding registersFit
+unfolding stateFits registersFit
 cast-registers c =
-    let s = c .before .before .before .args .state .now in
+    let s = c .before .before .before .before .args .state .now in
     let l = c .before .before .loop in
-    let h = leb-true (getD s (5 + l .i) 0) 65535 (below-out 16 (λ j. leb (getD s (5 + j) 0) 65535) (c .before .before .before .pre .1) (l .i) (omega arith)) in
+    let h = leb-true (getD s (5 + l .i) 0) 65535 (below-out 16 (λ j. leb (getD s (5 + j) 0) 65535) (and-both _ _ (c .before .before .before .before .pre .1) .0) (l .i) (omega arith)) in
     omega arith
 
 mul-registers-2 : tie.Need-mul-registers-2 Inv-loop μ-loop
@@ -56,7 +57,7 @@ loop-less c = search needs
 
 loop-again : tie.Need-loop-again Inv-loop μ-loop
 loop-again c =
-    let s = c .before .before .before .args .state .now in
+    let s = c .before .before .before .before .args .state .now in
     let l = c .before .before .loop in
     let x = getD s (5 + l .i) 0 in
     let long : l .i < length (drop 5 s) = omega (arith, length-drop 5 s) in (
@@ -84,14 +85,21 @@ shared-slice-read-t22 c = search needs
 shared-slice-read-t25 : tie.Need-shared-slice-read-t25 Inv-loop μ-loop
 shared-slice-read-t25 c = search needs
 
+read-readiness-requires : tie.Need-read-readiness-requires Inv-loop μ-loop
+read-readiness-requires c κs = search needs
+
 returns : tie.Need-returns Inv-loop μ-loop
 unfolding machineIn
 returns c = λ h.
-    let s = c .before .before .before .before .before .before .before .args .state .now in
-    let l = c .before .before .before .before .before .before .loop in
+    let s = c .before .before .before .before .before .before .before .before .before .args .state .now in
+    let l = c .before .before .before .before .before .before .before .loop in
     let e : l .i ≡ 16 = omega arith in
     let same = sym (take-all 16 (l .registers) (omega arith)) ∙ subst (λ (n : ℕ). take n (l .registers) ≡ take n (drop 5 s)) e (l .inv .2) in
-    ap (λ (r : List ℕ). machine (getD s 0 0) r (nodesIn 64 (getD s 3 0)) (nodesIn 64 (getD s 4 0)) (getD s 1 0) (getD s 2 0) h) same
+    let ready = c .read-readiness .ensures in
+    λ i. record {
+      machine = machine (getD s 0 0) (same i) (nodesIn 64 (getD s 3 0)) (nodesIn 64 (getD s 4 0)) (getD s 1 0) (getD s 2 0) h;
+      readiness = ready i;
+    }
 
 pub read-machine-spec : {M : Type 1} → statement M
 read-machine-spec =
@@ -114,4 +122,5 @@ read-machine-spec =
     shared-slice-read-t19
     shared-slice-read-t22
     shared-slice-read-t25
+    read-readiness-requires
     returns)
