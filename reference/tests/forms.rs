@@ -7,6 +7,7 @@ use reference::judge::{first_false_direct, states};
 use reference::machine::{fresh, Machine, Stop};
 use reference::plain;
 use reference::random::Rng;
+use reference::ready::Readiness;
 use reference::rule::Node;
 use reference::script::{instruction_words, Line};
 use reference::weave::weave_lines;
@@ -447,6 +448,9 @@ fn state(g: &mut Rng, rule: &[u32], lines: usize) -> Machine {
         m.kept = std::array::from_fn(|_| g.chance(1, 2));
         m.work = std::array::from_fn(|_| g.chance(1, 2));
         m.dials = std::array::from_fn(|_| g.below(5) as u16);
+        let mut bits = || std::array::from_fn(|_| g.chance(1, 2));
+        let (priors, next, tested) = (bits(), bits(), bits());
+        m.readiness = Readiness { ready: g.chance(1, 2), priors, next, tested };
     }
     m
 }
