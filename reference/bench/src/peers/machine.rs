@@ -116,37 +116,33 @@ fn mentioned_twice<W: Set>(rule: &[W], c: u64) -> bool {
     rule.iter().take(W::MOST_NODES).map(mentions).sum::<u32>() > 1
 }
 
-/// Whether a presentation would keep the rule, and the priors that it would leave, for a table that need not be a rule. Values are bits,
-/// node 0 the most significant one: of a node that is not worked out yet the bit is 0.
+/// Whether a presentation would keep the rule, and the priors that it would leave, for a table that need not be a rule. A node that is not
+/// worked out yet is 0. Values stand apart in memory, so that a node waits for its operands alone.
 fn worked_out<W: Set>(rule: &[W], registers: &[u64; 16], priors: u64) -> (u64, u64) {
-    let (mut values, mut next, mut last) = (0u64, 0u64, 0);
+    let mut values = [0u8; 64];
+    let (mut next, mut last) = (0u64, 0);
     for (k, &word) in rule.iter().take(W::MOST_NODES).enumerate() {
         let w = word.top();
-        let own = registers[(w >> 57 & 15) as usize];
-        let constant = w >> 43 & 0x3fff;
-        let of = |operand: u32| values << W::place((w >> (43 - operand * W::OPERAND)) as usize) >> 63;
-        let prior = priors << k >> 63;
-        let mut left_behind = 0;
-        last = match kind_of(word) {
-            EQUAL => (own == constant) as u64,
-            BELOW => (own < constant) as u64,
-            EQUAL_REGISTERS => (own == registers.get(constant as usize).map_or(0, |&x| x)) as u64,
-            IMPLIES => of(1) ^ 1 | of(2),
+        let test = || (registers[(w >> 57 & 15) as usize], w >> 43 & 0x3fff);
+        let of = |operand: u32| values[W::place((w >> (43 - operand * W::OPERAND)) as usize)];
+        let prior = (priors >> (63 - k)) as u8 & 1;
+        let (value, left_behind) = match kind_of(word) {
+            EQUAL => ((test().0 == test().1) as u8, 0),
+            BELOW => ((test().0 < test().1) as u8, 0),
+            EQUAL_REGISTERS => ((test().0 == registers.get(test().1 as usize).map_or(0, |&x| x)) as u8, 0),
+            IMPLIES => (of(1) ^ 1 | of(2), 0),
             SINCE => {
-                left_behind = of(2) | of(1) & prior;
-                left_behind
+                let now = of(2) | of(1) & prior;
+                (now, now)
             }
-            WEAK_PREVIOUS => {
-                left_behind = of(1);
-                prior
-            }
-            _ => 0,
+            WEAK_PREVIOUS => (prior, of(1)),
+            _ => (0, 0),
         };
-        let place = 63 - k as u32;
-        values |= last << place;
-        next |= left_behind << place;
+        last = value;
+        values[k & 63] = value;
+        next |= (left_behind as u64) << (63 - k);
     }
-    (last, next)
+    (last as u64, next)
 }
 
 /// The registers that the tests of a table read, register 0 the most significant bit, and the weak previouses among its nodes.
