@@ -2,6 +2,7 @@
 use reference::facts::{with_planted_fault, Fault};
 use reference::form::Word;
 use reference::generate;
+use reference::judge::states;
 use reference::machine::{fresh, nodes_in, step_stored_in, stuck, Machine, Stop};
 use reference::random::Rng;
 use reference::ready::{by_definition, Bits, Readiness};
@@ -50,6 +51,25 @@ fn words<W: Word>(nodes: &[Node]) -> Vec<W> {
     nodes.iter().map(Node::encode_in).collect()
 }
 
+/// All that a state holds, by the definitions. The prior of a since is its value at the last presentation, false if there is none, that of a
+/// weak previous its own value now; the next prior of a since is its value now, that of a weak previous its operand's.
+fn defined(rule: &Rule, m: &Machine, history: &[u16]) -> Readiness {
+    let mut all = states(&history[..16 * m.presentations as usize]);
+    all.push(m.dials);
+    let now = all.len() - 1;
+    let values = rule.truth_table(&all);
+    let of_kind = |k: usize, kind: u8| rule.nodes.get(k).is_some_and(|d| d.kind == kind);
+    let prior = |k: usize| of_kind(k, 4) && now > 0 && values[k][now - 1] || of_kind(k, 5) && values[k][now];
+    let next = |k: usize| of_kind(k, 4) && values[k][now] || of_kind(k, 5) && values[rule.nodes[k].left as usize][now];
+    let read_by = |d: &Node, r: usize| d.branch().is_some() && (d.register as usize == r || d.kind == 6 && d.constant as usize == r);
+    Readiness {
+        ready: values[rule.last()][now],
+        priors: std::array::from_fn(prior),
+        next: std::array::from_fn(next),
+        tested: std::array::from_fn(|r| rule.nodes.iter().any(|d| read_by(d, r))),
+    }
+}
+
 /// A rule that passes questions 1 to 4, with a script that need not pass any.
 struct Played<'a, W: Word> {
     rule: &'a Rule,
@@ -69,11 +89,10 @@ impl<'a, W: Word> Played<'a, W> {
     }
 
     fn agrees(&self, m: &Machine) -> bool {
-        m.readiness.ready == by_definition(self.rule, m, &self.history)
+        m.readiness.ready == by_definition(self.rule, m, &self.history) && m.readiness == defined(self.rule, m, &self.history)
     }
 
-    /// The machine at a fresh start and after each of so many steps; or the first of them that is ready where the definition says no, or
-    /// the other way round.
+    /// The machine at a fresh start and after each of so many steps; or the first of them whose state is not what the definitions say.
     fn machines(&mut self, steps: usize) -> Result<Vec<Machine>, usize> {
         let mut all = vec![fresh(&self.rule.nodes)];
         for k in 0..=steps {
