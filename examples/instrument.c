@@ -1,6 +1,7 @@
 /*
  * An audiometer in small: it loads a rule typed as text and a bare script in hexadecimal, has the guard woven in and checked, plays
- * the script step by step with inputs from a list, prints each presentation as it is made, and has the record judged afterwards.
+ * the script step by step with inputs from a list, tells whenever it becomes ready to present or no longer is, prints each presentation as it
+ * is made, and has the record judged afterwards.
  *
  *     instrument RULE SCRIPT ACCIDENT HAND INPUT...
  */
@@ -90,9 +91,17 @@ static size_t read_rule(const char *path, uint32_t *rule)
     return (size_t)numbers[GUARD_TEXT_NODES];
 }
 
-static void print_state(const uint16_t *state)
+static void print_registers(uint64_t one, uint64_t two)
 {
-    printf("register 1 = %u, register 2 = %u\n", (unsigned)state[1], (unsigned)state[2]);
+    printf("register 1 = %u, register 2 = %u\n", (unsigned)one, (unsigned)two);
+}
+
+/* The ready lamp, which is on if a presentation made now would keep the rule. */
+static void tell_ready(const uint64_t *state)
+{
+    const uint64_t *registers = &state[GUARD_STATE_REGISTERS];
+    printf("%s: ", state[GUARD_STATE_READY] ? "ready" : "not ready");
+    print_registers(registers[1], registers[2]);
 }
 
 /* Plays the script: the next input is fetched when the machine waits for one. Answers how many presentations were made. */
@@ -103,8 +112,9 @@ static uint64_t play(const uint32_t *rule, size_t nodes, const uint32_t *script,
     uint16_t inputs[MOST_INPUTS] = {0};
     size_t arrived = 0;
     guard_fresh(rule, nodes, state, GUARD_STATE_NUMBERS);
+    tell_ready(state);
     for (int step = 0; step < MOST_STEPS; step++) {
-        uint64_t presented = state[GUARD_STATE_PRESENTATIONS];
+        uint64_t presented = state[GUARD_STATE_PRESENTATIONS], ready = state[GUARD_STATE_READY];
         uint32_t opcode = script[GUARD_LINE_WORDS * state[GUARD_STATE_LINE]] >> 28;
         if (opcode == 0)
             break;
@@ -116,9 +126,12 @@ static uint64_t play(const uint32_t *rule, size_t nodes, const uint32_t *script,
         }
         guard_step(rule, nodes, script, words, inputs, arrived, history, history_length, state, GUARD_STATE_NUMBERS);
         if (state[GUARD_STATE_PRESENTATIONS] > presented) {
+            const uint16_t *made = &history[GUARD_REGISTERS * presented];
             printf("presentation %llu: ", (unsigned long long)presented);
-            print_state(&history[GUARD_REGISTERS * presented]);
+            print_registers(made[1], made[2]);
         }
+        if (state[GUARD_STATE_READY] != ready)
+            tell_ready(state);
     }
     return state[GUARD_STATE_PRESENTATIONS];
 }

@@ -84,7 +84,7 @@ enum guard_question {
     GUARD_PRESENT_LOST = 19,      /* at each present, is the rule known to be true by the largest facts? If not, no facts whatever get
                                      these instructions accepted (line) */
     GUARD_MOVED_NODE_COUNT = 20,  /* has the rule that moves back to the first form at most 32 nodes? */
-    GUARD_TOO_LARGE = 98,         /* a step: a register in `state` is above 65,535 */
+    GUARD_TOO_LARGE = 98,         /* a step: a register in `state` is above 65,535, or state[GUARD_STATE_READY] above 1 */
     GUARD_TOO_SHORT = 99          /* `numbers` or `state` is shorter than the function needs */
 };
 
@@ -237,7 +237,14 @@ uint32_t guard_run(const uint32_t *rule, size_t rule_length, const uint32_t *scr
                    const uint16_t *inputs, size_t inputs_length, uint64_t budget,
                    uint16_t *history, size_t history_length, uint64_t *numbers, size_t numbers_length);
 
-/* A machine between two steps, in the caller's memory. Bits of a node: node 0 is the most significant of the 64. */
+/* A machine between two steps, in the caller's memory. Bits of a node: node 0 is the most significant of the 64; bits of a register
+ * likewise, register 0 the most significant.
+ *
+ * state[GUARD_STATE_READY] is 1 if a presentation made now would keep the rule, else 0: the rule at the last index of the history so far
+ * with the present registers added, whether the history has space for them or not. It is right at the start and after every step for a rule
+ * that passes questions 1 to 4 and a state that guard_fresh wrote for it and that only guard_step, with the same rule and history, has
+ * changed since; for ANY script, accepted or not, woven, by hand or wrong. After a woven block that did not present, and after a present
+ * that found the history full, it is what it was before. The three numbers after it are what it is worked out from. */
 enum {
     GUARD_STATE_LINE = 0,
     GUARD_STATE_PRESENTATIONS = 1,
@@ -245,11 +252,16 @@ enum {
     GUARD_STATE_KEPT = 3,         /* the kept bits of the past nodes */
     GUARD_STATE_WORK = 4,         /* the work bits of the past and the shared nodes */
     GUARD_STATE_REGISTERS = 5,    /* the 16 registers, state[5] to state[20] */
-    GUARD_STATE_NUMBERS = 21
+    GUARD_STATE_READY = 21,       /* 1 if a presentation made now would keep the rule, else 0 */
+    GUARD_STATE_PRIORS = 22,      /* the priors of the past nodes after the presentations made, whatever the kept bits are */
+    GUARD_STATE_NEXT_PRIORS = 23, /* the priors that a presentation made now would leave */
+    GUARD_STATE_TESTED = 24,      /* the registers that a test of the rule reads */
+    GUARD_STATE_NUMBERS = 25
 };
 
-/* Writes the fresh start into the first 21 elements of `state`: line 0, all registers 0, nothing presented or read, the kept bits
- * of the rule's first 32 nodes as they are at first, all work bits 0. It puts no question: 0 or GUARD_TOO_SHORT. */
+/* Writes the fresh start into the first 25 elements of `state`: line 0, all registers 0, nothing presented or read, the kept bits
+ * and the priors of the rule's first 32 nodes as they are at first, all work bits 0, and from these nodes whether a first presentation, with
+ * all registers 0, would keep the rule. It puts no question: 0 or GUARD_TOO_SHORT. */
 uint32_t guard_fresh(const uint32_t *rule, size_t rule_length, uint64_t *state, size_t state_length);
 
 /* One step of an annotated script, from the machine in `state` to the next, in its place; a presentation goes into `history` as
@@ -260,7 +272,13 @@ uint32_t guard_fresh(const uint32_t *rule, size_t rule_length, uint64_t *state, 
  * most 16,383, and rule, script, inputs, state and history that nothing else writes. `state` and `history` stay as they are at a
  * halt, at an input when none is left, at a present with fewer than 16 free numbers, at a line that is not there, and at an
  * instruction that question 6 would refuse. A register of more than 16,383, which no run has, becomes 16,383 where opcode 3 raises it,
- * and has c less where opcode 14 lowers it. */
+ * and has c less where opcode 14 lowers it.
+ *
+ * A write of a register that is in state[GUARD_STATE_TESTED] works state[GUARD_STATE_READY] and the next priors out anew, from the
+ * registers after it and the priors; a write of another leaves them. A presentation makes the next priors the priors, then works both
+ * out anew. No other step changes any of the four. To work them out, the rule's first 32 nodes are gone through once in rising order; of a
+ * table that fails a question, an operand that is not lower than its node counts as false, a kind of 7 as false, and a register above 15 as
+ * 0. */
 uint32_t guard_step(const uint32_t *rule, size_t rule_length, const uint32_t *script, size_t script_length,
                     const uint16_t *inputs, size_t inputs_length, uint16_t *history, size_t history_length,
                     uint64_t *state, size_t state_length);

@@ -115,6 +115,12 @@ pub enum Fault {
     MovesUnfit,
     /// A script's move puts 9 to 11 too.
     MovesAcceptedAlone,
+    /// The priors that ready is worked out from are the kept bits.
+    PriorsAreKept,
+    /// Ready is not worked out anew after an input.
+    ReadyBeforeInput,
+    /// A present that finds the history full moves the priors on.
+    PriorsMovedAtFull,
 }
 
 thread_local! {

@@ -12,6 +12,7 @@ pub mod machine;
 pub mod moves;
 pub mod plain;
 pub mod random;
+pub mod ready;
 pub mod rule;
 pub mod script;
 pub mod text;

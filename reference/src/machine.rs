@@ -2,6 +2,7 @@
 use crate::facts::{planted, Fault};
 use crate::form::Word;
 use crate::judge::check_numbers;
+use crate::ready::{Bits, Readiness};
 use crate::rule::Node;
 use crate::script::{annotated_opcode, check_script_in, fields_allowed, Line};
 use crate::{No, State, TOP};
@@ -9,11 +10,12 @@ use crate::{No, State, TOP};
 #[derive(Clone, Debug, PartialEq, Eq)]
 pub struct Machine {
     pub dials: State,
-    pub kept: [bool; 64],
-    pub work: [bool; 64],
+    pub kept: Bits,
+    pub work: Bits,
     pub line: u64,
     pub presentations: u64,
     pub read: u64,
+    pub readiness: Readiness,
 }
 
 #[derive(Clone, Copy, Debug, PartialEq, Eq)]
@@ -39,7 +41,8 @@ pub fn fresh(nodes: &[Node]) -> Machine {
     for (i, n) in nodes.iter().enumerate() {
         kept[i] = n.kind == 5;
     }
-    Machine { dials: [0; 16], kept, work: [false; 64], line: 0, presentations: 0, read: 0 }
+    let readiness = Readiness::fresh(nodes);
+    Machine { dials: [0; 16], kept, work: [false; 64], line: 0, presentations: 0, read: 0, readiness }
 }
 
 /// Would a run stop at this line, budget aside?
@@ -83,12 +86,16 @@ pub fn test(l: &Line, dials: &State) -> bool {
 }
 
 impl Machine {
-    /// One step of line `l` takes the machine's state and hands back the next.
-    pub fn step(self, l: &Line, inputs: &[u16], history: &mut [u16]) -> Machine {
-        if stuck(l, &self, inputs, history.len()).is_some() {
-            return self;
-        }
+    /// One step of line `l` takes the machine's state and hands back the next. The rule's nodes are there for the readiness alone.
+    pub fn step(self, nodes: &[Node], l: &Line, inputs: &[u16], history: &mut [u16]) -> Machine {
+        let stop = stuck(l, &self, inputs, history.len());
         let mut m = self;
+        if stop.is_some() {
+            if stop == Some(Stop::Full) && planted(Fault::PriorsMovedAtFull) {
+                m.readiness = m.readiness.after(nodes, l, &m.dials);
+            }
+            return m;
+        }
         let (next, target) = (m.line + 1, l.target as u64);
         let c = l.c as usize;
         m.line = next;
@@ -111,6 +118,10 @@ impl Machine {
             12 => m.kept[c] = m.work[c],
             _ => unreachable!(),
         }
+        if planted(Fault::PriorsAreKept) {
+            m.readiness.priors = m.kept;
+        }
+        m.readiness = m.readiness.after(nodes, l, &m.dials);
         m
     }
 }
@@ -122,10 +133,11 @@ pub fn step_stored_in<W: Word>(rule: &[W], script: &[W], inputs: &[u16], history
         return m;
     }
     let l = Line::decode_annotated_in(&script[8 * m.line as usize..]);
-    if !fields_allowed(&nodes_in(rule), annotated_opcode, &l) {
+    let nodes = nodes_in(rule);
+    if !fields_allowed(&nodes, annotated_opcode, &l) {
         return m;
     }
-    m.step(&l, inputs, history)
+    m.step(&nodes, &l, inputs, history)
 }
 
 pub fn step_stored(rule: &[u32], script: &[u32], inputs: &[u16], history: &mut [u16], m: Machine) -> Machine {
@@ -160,7 +172,7 @@ pub fn run_in<W: Word>(rule: &[W], script: &[W], inputs: &[u16], budget: u64, hi
         if let Some(s) = s {
             break s;
         }
-        m = m.step(l, inputs, history);
+        m = m.step(&rule.nodes, l, inputs, history);
         steps += 1;
     };
     Ok(Ran { stop, line: m.line, dials: m.dials, steps, presentations: m.presentations, read: m.read })

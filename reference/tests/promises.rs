@@ -79,7 +79,7 @@ fn woven_scripts() {
         for _ in 0..=all {
             note(&mut of_woven, (m.dials, m.read, states(&history[..16 * m.presentations as usize])));
             let l = &woven[m.line as usize];
-            m = m.step(l, &inputs, &mut history);
+            m = m.step(&rule.nodes, l, &inputs, &mut history);
         }
         assert!(of_plain.starts_with(&of_woven), "woven steps show only what plain ones do");
         assert!(of_woven.starts_with(&of_plain[..of_first]), "plain steps are reached");

@@ -2,14 +2,14 @@
 use crate::peers::facts::find_facts;
 use crate::peers::form::Set;
 use crate::peers::judge::{many_at_once, one_at_a_time};
-use crate::peers::machine::{run, step};
+use crate::peers::machine::{fresh, run, step};
 use crate::peers::rule::Rule;
 use crate::peers::script::{check_code, check_script, BARE};
 use crate::peers::text::read_text;
 use crate::peers::weave::weave;
 use crate::peers::No;
 use compare::face::Face;
-use compare::proved::{library, BOTH_FORMS};
+use compare::proved::{holds_readiness, library, BOTH_FORMS};
 use compare::request::Request;
 use compare::requests::request;
 
@@ -73,6 +73,13 @@ fn agree_on<W: Set>(request: Request<W>) {
             q[0] = place;
             assert!(result == number && p == q && history == peer_history);
         }
+        // of states that are shorter there is nothing to compare
+        Request::Fresh { .. } | Request::Steps { .. } if !holds_readiness() => {}
+        Request::Fresh { rule, mut state } => {
+            let mut peer_state = state.clone();
+            assert_eq!(proved.fresh(&rule, &mut state), fresh(&rule, &mut peer_state));
+            assert!(state == peer_state);
+        }
         Request::Steps { rule, script, inputs, mut history, mut state, count } => {
             let (mut peer_history, mut peer_state) = (history.clone(), state.clone());
             for _ in 0..count {
@@ -90,7 +97,7 @@ fn agree_on<W: Set>(request: Request<W>) {
             assert!((result, p[0]) == numbers(peer) && out == peer_out);
         }
         // without a peer
-        Request::Fresh { .. } | Request::MoveRule { .. } | Request::MoveScript { .. } => {}
+        Request::MoveRule { .. } | Request::MoveScript { .. } => {}
     }
 }
 

@@ -4,8 +4,8 @@ mod histories;
 mod measure;
 mod peers;
 
-use compare::face::Face;
-use compare::proved::{library, BOTH_FORMS};
+use compare::face::{Face, STATE_NUMBERS, TESTED};
+use compare::proved::{holds_readiness, library, BOTH_FORMS};
 use histories::{random_history, rules_in_second_form, steady_history, Named, RULES};
 use measure::{measure, Row, Table};
 use peers::form::Set;
@@ -202,18 +202,18 @@ fn run_rows<W: Set>(runs: Vec<(&str, &'static [W], Vec<u32>)>) -> Vec<Row> {
 }
 
 /// Steps asked for one by one, the state in lent memory.
-fn step_row<W: Set>(name: &str, rule: &'static [W], bare: &[u32]) -> Row {
+fn step_row<W: Set>(name: &str, rule: &'static [W], script: &[W]) -> Row {
     const STEPS: usize = 20_000;
     type Step<W> = fn(&[W], &[W], &[u16], &mut [u16], &mut [u64]) -> u32;
     let proved: Step<W> = |rule, script, inputs, history, state| library().step(rule, script, inputs, history, state);
     let calls = [proved, peers::machine::step]
         .into_iter()
         .map(|step| {
-            let script = woven(rule, bare);
+            let script = script.to_vec();
             let inputs = vec![1; 2 * STEPS];
             let mut history = vec![0; 16 * STEPS];
             Box::new(move || {
-                let mut state = [0; 21];
+                let mut state = [0; STATE_NUMBERS];
                 library().fresh(rule, &mut state);
                 for _ in 0..STEPS {
                     black_box(step(rule, &script, &inputs, &mut history, &mut state));
@@ -222,6 +222,49 @@ fn step_row<W: Set>(name: &str, rule: &'static [W], bare: &[u32]) -> Row {
         })
         .collect();
     Row::new(format!("step that {name}, {STEPS} calls"), "step", STEPS, calls)
+}
+
+/// A register that no rule here tests.
+const UNTESTED: u32 = 15;
+
+/// Each kind of step by itself: a full script of one instruction without facts, which a step does not ask for, and a go to line 0; or of gos
+/// alone.
+fn kinds_of_steps<W: Set>(name: &str, rule: &'static [W]) -> Vec<Row> {
+    let mut state = [0; STATE_NUMBERS];
+    library().fresh(rule, &mut state);
+    let tested = state[TESTED].leading_zeros() & 15;
+    assert!(!holds_readiness() || state[TESTED] != 0 && state[TESTED] << UNTESTED >> 63 == 0);
+    let i = instruction;
+    [
+        ("jumps", None),
+        ("writes a register that a test reads", Some(i(3, tested, 1, 0))),
+        ("writes another register", Some(i(3, UNTESTED, 1, 0))),
+        ("presents each time", Some(i(8, 0, 0, 0))),
+    ]
+    .into_iter()
+    .map(|(does, word)| {
+        let mut script = vec![W::default(); 8 * 1024];
+        for (line, stored) in script.chunks_exact_mut(8).enumerate() {
+            let go = i(7, 0, 0, (line as u32 + 1) % 1024);
+            stored[0] = W::of_instruction(word.filter(|_| line < 1023).unwrap_or(go));
+        }
+        step_row(&format!("{does}, {name}, {} nodes", rule.len()), rule, &script)
+    })
+    .collect()
+}
+
+/// Fresh starts, which work out whether a first presentation would keep the rule.
+fn fresh_row<W: Set>(name: &str, rule: &'static [W]) -> Row {
+    let (mut state, mut peer_state) = ([0; STATE_NUMBERS], [0; STATE_NUMBERS]);
+    let calls: Vec<Box<dyn FnMut()>> = vec![
+        Box::new(move || {
+            black_box(library().fresh(black_box(rule), &mut state));
+        }),
+        Box::new(move || {
+            black_box(peers::machine::fresh(black_box(rule), &mut peer_state));
+        }),
+    ];
+    Row::new(format!("fresh {name}, {} nodes", rule.len()), "start", 1, calls)
 }
 
 const SHORT_TEXT: &str = "r1=1 since r2=1 and not r3<40";
@@ -365,8 +408,12 @@ fn first_form() -> Vec<Row> {
         (reads, r1.1, tone()),
         (shares, r6.1, masked_tone()),
     ]));
-    rows.push(step_row(reads, r1.1, &tone()));
-    rows.push(step_row(shares, r6.1, &masked_tone()));
+    rows.push(step_row(reads, r1.1, &woven(r1.1, &tone())));
+    rows.push(step_row(shares, r6.1, &woven(r6.1, &masked_tone())));
+    for (name, rule) in [r1, r4] {
+        rows.push(fresh_row(name, rule));
+        rows.extend(kinds_of_steps(name, rule));
+    }
     let nested = format!("{}r1=1{}", "(".repeat(10_000), ")".repeat(10_000));
     let digits = format!("r1={}", "9".repeat(1_000));
     let spoiled = format!("{FULL_TEXT})");
@@ -390,8 +437,10 @@ fn second_form(rules: &[Named<u64>; 3]) -> Vec<Row> {
     rows.extend(facts_rows(rules, &[1024], ", second form"));
     let (reads, long) = ("reads and presents, second form", "reads and presents, second form, with 64 nodes (R7)");
     rows.extend(run_rows(vec![(reads, r1.1, tone()), (long, r7.1, masked_tone())]));
-    rows.push(step_row(reads, r1.1, &tone()));
-    rows.push(step_row(long, r7.1, &masked_tone()));
+    rows.push(step_row(reads, r1.1, &woven(r1.1, &tone())));
+    rows.push(step_row(long, r7.1, &woven(r7.1, &masked_tone())));
+    rows.push(fresh_row(r7.0, r7.1));
+    rows.extend(kinds_of_steps(r7.0, r7.1));
     // an implies between the full text and one that is a node shorter
     let longest = format!("({FULL_TEXT}) implies {}", FULL_TEXT.replacen("wprev ", "", 1));
     rows.extend(text_rows::<u64>(", second form", &[("11 nodes", SHORT_TEXT, (0, [0, 11])), ("64 nodes", &longest, (0, [0, 64]))]));

@@ -1,19 +1,22 @@
 //! Requests put to both, and every number of every answer and of every lent slice held side by side; and the two stored forms held to each
 //! other.
-use crate::face::Face;
+use crate::face::{Face, PRESENTATIONS, READY, REGISTERS, STATE_NUMBERS};
 use crate::faced::Reference;
 use crate::proved::{library, Form};
 use crate::request::Request;
 use crate::requests::{moving, request};
+use reference::judge::states;
+use reference::rule::{check_rule_in, Rule};
 use std::collections::BTreeMap;
 
-/// What was met, by the functions' names: how many calls handed back each number, how the runs stopped, and how many calls were answered
-/// alike in both forms.
+/// What was met, by the functions' names: how many calls handed back each number, how the runs stopped, how many states of a run from a
+/// fresh start were ready and were not, by the definition, and how many calls were answered alike in both forms.
 #[derive(Default, Debug)]
 pub struct Met {
     pub calls: u64,
     pub results: BTreeMap<(&'static str, u32), u64>,
     pub stops: BTreeMap<(&'static str, u64), u64>,
+    pub ready: BTreeMap<(&'static str, bool), u64>,
     pub across: BTreeMap<&'static str, u64>,
 }
 
@@ -37,9 +40,46 @@ fn alike<W: Form>(one: &Request<W>, other: &Request<W>) -> Result<(), String> {
     one.difference(other).map_or(Ok(()), Err)
 }
 
+/// The rule of a request for a fresh start, or for steps from one, if it passes questions 1 to 4: then the definition says whether the
+/// machine is ready, and the state is held to that as well.
+pub fn started<W: Form>(asked: &Request<W>) -> Option<Rule> {
+    let rule = match asked {
+        Request::Fresh { rule, state } if state.len() >= STATE_NUMBERS => rule,
+        Request::Steps { rule, state, .. } if state.len() >= STATE_NUMBERS => {
+            let mut fresh = [0; STATE_NUMBERS];
+            Reference.fresh(rule, &mut fresh);
+            (state[..STATE_NUMBERS] == fresh).then_some(rule)?
+        }
+        _ => return None,
+    };
+    check_rule_in(rule).ok()
+}
+
+/// After a call of such a request, whether the machine is ready by the definition: a since looks back over all that was presented.
+pub fn ready_by_definition<W: Form>(rule: &Rule, called: &Request<W>) -> bool {
+    let (state, history): (&[u64], &[u16]) = match called {
+        Request::Fresh { state, .. } => (state, &[]),
+        Request::Steps { state, history, .. } => (state, history),
+        _ => unreachable!("it was started"),
+    };
+    let registers = std::array::from_fn(|r| state[REGISTERS + r] as u16);
+    rule.holds_now(&states(&history[..16 * state[PRESENTATIONS] as usize]), &registers)
+}
+
+/// What the proved code has written is ready where the definition says so.
+fn defined<W: Form>(rule: &Rule, called: &Request<W>) -> Result<bool, String> {
+    let (Request::Fresh { state, .. } | Request::Steps { state, .. }) = called else { unreachable!("it was started") };
+    let ready = ready_by_definition(rule, called);
+    if state[READY] != ready as u64 {
+        return Err(format!("ready: {}, by the definition {ready}", state[READY]));
+    }
+    Ok(ready)
+}
+
 /// One request put to the proved code and to the reference: the first difference, proved first, if there is one.
 pub fn put<W: Form>(asked: &Request<W>, met: &mut Met) -> Result<(), String> {
     let (mut proved, mut reference) = (asked.clone(), asked.clone());
+    let started = started(asked);
     for _ in 0..asked.calls() {
         let result = same(proved.put(&library()), reference.put(&Reference))?;
         alike(&proved, &reference)?;
@@ -48,6 +88,9 @@ pub fn put<W: Form>(asked: &Request<W>, met: &mut Met) -> Result<(), String> {
         match &proved {
             Request::Run { numbers, .. } if result != 99 => *met.stops.entry((asked.function(), numbers[1])).or_default() += 1,
             _ => {}
+        }
+        if let Some(rule) = &started {
+            *met.ready.entry((asked.function(), defined(rule, &proved)?)).or_default() += 1;
         }
     }
     Ok(())

@@ -1,6 +1,18 @@
 //! What `include/guard.h` offers for one of the stored forms, on slices.
 use crate::proved::Form;
 
+/// The numbers of a machine's state, and where they stand.
+pub const LINE: usize = 0;
+pub const PRESENTATIONS: usize = 1;
+pub const KEPT: usize = 3;
+pub const WORK: usize = 4;
+pub const REGISTERS: usize = 5;
+pub const READY: usize = 21;
+pub const PRIORS: usize = 22;
+pub const NEXT_PRIORS: usize = 23;
+pub const TESTED: usize = 24;
+pub const STATE_NUMBERS: usize = 25;
+
 /// The proved library has it, and so has the reference.
 pub trait Face<W: Form> {
     fn text(&self, text: &[u8], out: &mut [W], numbers: &mut [u64]) -> u32;

@@ -1,10 +1,11 @@
 //! What `include/guard.h` says of each function, over the reference.
-use crate::face::Face;
+use crate::face::{Face, READY, REGISTERS, STATE_NUMBERS};
 use crate::proved::Form;
 use reference::judge::judge_in;
 use reference::largest::find_facts_in;
 use reference::machine::{fresh, nodes_in, run_in, step_stored_in, Machine, Ran, Stop};
 use reference::moves::{move_rule, move_script};
+use reference::ready::{Bits, Readiness};
 use reference::rule::check_rule_in;
 use reference::script::{check_bare_in, check_script_in};
 use reference::text::read_text_in;
@@ -58,18 +59,37 @@ fn ran_words(ran: &Ran) -> [u64; 22] {
     words
 }
 
-/// Node 0 is the most significant bit.
-fn bits(word: u64) -> [bool; 64] {
+/// Node 0, or register 0, is the most significant bit.
+fn bits(word: u64) -> Bits {
     std::array::from_fn(|k| word >> (63 - k) & 1 == 1)
 }
 
-fn word(bits: [bool; 64]) -> u64 {
+fn word(bits: Bits) -> u64 {
     bits.iter().fold(0, |w, &b| w << 1 | b as u64)
 }
 
 fn note_machine(state: &mut [u64], m: &Machine) {
     note(state, [m.line, m.presentations, m.read, word(m.kept), word(m.work)]);
-    note(&mut state[5..], m.dials.map(u64::from));
+    note(&mut state[REGISTERS..], m.dials.map(u64::from));
+    let Readiness { ready, priors, next, tested } = m.readiness;
+    note(&mut state[READY..], [ready as u64, word(priors), word(next), word(tested)]);
+}
+
+/// The machine in a state of enough numbers; none if one of them is too large.
+fn machine(state: &[u64]) -> Option<Machine> {
+    let mut dials = [0; 16];
+    for (dial, &word) in dials.iter_mut().zip(&state[REGISTERS..READY]) {
+        *dial = u16::try_from(word).ok()?;
+    }
+    let ready = match state[READY] {
+        0 => false,
+        1 => true,
+        _ => return None,
+    };
+    let [priors, next, tested] = [state[22], state[23], state[24]].map(bits);
+    let readiness = Readiness { ready, priors, next, tested };
+    let (line, presentations, read) = (state[0], state[1], state[2]);
+    Some(Machine { dials, kept: bits(state[3]), work: bits(state[4]), line, presentations, read, readiness })
 }
 
 /// The reference behind the header's functions.
@@ -113,7 +133,7 @@ impl<W: Form> Face<W> for Reference {
     }
 
     fn fresh(&self, rule: &[W], state: &mut [u64]) -> u32 {
-        if state.len() < 21 {
+        if state.len() < STATE_NUMBERS {
             return TOO_SHORT;
         }
         note_machine(state, &fresh(&nodes_in(rule)));
@@ -121,17 +141,10 @@ impl<W: Form> Face<W> for Reference {
     }
 
     fn step(&self, rule: &[W], script: &[W], inputs: &[u16], history: &mut [u16], state: &mut [u64]) -> u32 {
-        if state.len() < 21 {
+        if state.len() < STATE_NUMBERS {
             return TOO_SHORT;
         }
-        let mut dials = [0; 16];
-        for (dial, &word) in dials.iter_mut().zip(&state[5..21]) {
-            match u16::try_from(word) {
-                Ok(number) => *dial = number,
-                Err(_) => return TOO_LARGE,
-            }
-        }
-        let m = Machine { dials, kept: bits(state[3]), work: bits(state[4]), line: state[0], presentations: state[1], read: state[2] };
+        let Some(m) = machine(state) else { return TOO_LARGE };
         note_machine(state, &step_stored_in(rule, script, inputs, history, m));
         0
     }

@@ -1,5 +1,5 @@
 //! The functions of `include/guard.h`, on slices.
-use crate::face::Face;
+use crate::face::{Face, STATE_NUMBERS};
 use reference::form::Word;
 use std::mem::transmute;
 
@@ -70,6 +70,12 @@ impl Form for u64 {
 
 /// Whether the library has the functions of the second form and the moves.
 pub const BOTH_FORMS: bool = cfg!(not(first_form_alone));
+
+/// Whether the library's states hold if a presentation would keep the rule: one from before 2026-08, which the benchmark is held against, has
+/// shorter states.
+pub fn holds_readiness() -> bool {
+    library::<u32>().fresh(&[], &mut [0; STATE_NUMBERS - 1]) != 0
+}
 
 // In their place, so that the benchmark links. A call ends the program.
 #[cfg(first_form_alone)]

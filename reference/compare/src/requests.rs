@@ -1,5 +1,7 @@
 //! Random requests: what passes every question, what is spoiled bit by bit, several faults at once, lengths one short and one
 //! long.
+use crate::face::{Face, KEPT, NEXT_PRIORS, PRIORS, READY, REGISTERS, STATE_NUMBERS, TESTED, WORK};
+use crate::faced::Reference;
 use crate::lent::Lent;
 use crate::proved::Form;
 use crate::request::Request;
@@ -425,27 +427,80 @@ fn budget(g: &mut Rng) -> u64 {
 
 /// A machine's words at random.
 fn state(g: &mut Rng, rule: &Rule, lines: usize) -> Vec<u64> {
-    let mut words = vec![0; 21];
+    let mut words = vec![0; STATE_NUMBERS];
     words[0] = g.below(lines + 2) as u64;
     words[1] = g.below(10) as u64;
     words[2] = g.below(40) as u64;
-    words[3] = g.next();
-    words[4] = g.next();
-    for w in &mut words[5..] {
+    words[KEPT] = g.next();
+    words[WORK] = g.next();
+    for w in &mut words[REGISTERS..READY] {
         *w = g.pick(&[0, 1, 2, 3, 16_383, 16_384, 65_535]);
     }
-    match g.below(10) {
+    words[READY] = g.below(2) as u64;
+    for w in &mut words[PRIORS..] {
+        *w = g.next();
+    }
+    match g.below(12) {
         0 => words[g.below(3)] = g.next(),
         1 => words[g.below(3)] = u64::MAX,
-        2 => words[5 + g.below(16)] = g.pick(&[65_536, 65_535, u64::MAX, 1 << 32]),
-        3 => words[3] &= !0 << (64 - rule.len()),
+        2 => words[REGISTERS + g.below(16)] = g.pick(&[65_536, 65_535, u64::MAX, 1 << 32]),
+        3 => words[KEPT] &= !0 << (64 - rule.len()),
         4 => {
             words.pop();
         }
         5 => words.push(g.next()),
+        6 => words[READY] = g.pick(&[2, 3, 1 << 32, u64::MAX]),
+        7 => (words[REGISTERS + g.below(16)], words[READY]) = (65_536, 2),
+        8 => words[TESTED] = 0,
         _ => {}
     }
     words
+}
+
+/// The words of a fresh start for a rule, right or wrong.
+fn fresh_state<W: Form>(rule: &[W]) -> Vec<u64> {
+    let mut words = vec![0; STATE_NUMBERS];
+    Reference.fresh(rule, &mut words);
+    words
+}
+
+/// What some steps from a fresh start lead to, with what they have presented in the history; often one thing of it is changed, which no run
+/// does.
+fn run_on<W: Form>(g: &mut Rng, rule: &[W], script: &[W], inputs: &[u16], history: &mut [u16]) -> Vec<u64> {
+    let mut words = fresh_state(rule);
+    for _ in 0..g.within(1, 60) {
+        Reference.step(rule, script, inputs, history, &mut words);
+    }
+    match g.below(8) {
+        0 => words[KEPT] = g.next(),
+        1 => words[READY] ^= 1,
+        2 => words[PRIORS] ^= any_bit::<W>(g),
+        3 => words[NEXT_PRIORS] ^= any_bit::<W>(g),
+        4 => words[TESTED] ^= bit(g.below(generate::REGISTERS)),
+        5 => words[REGISTERS + g.below(generate::REGISTERS)] = g.below(generate::CONSTANTS) as u64,
+        _ => {}
+    }
+    words
+}
+
+/// A script with lines put in that have nothing to do with what it is for: 9s and 12s, which spoil the kept bits, presents, and writes of
+/// any register.
+fn strayed<W: Form>(g: &mut Rng, rule: &Rule, script: &[W]) -> Vec<W> {
+    let mut lines: Vec<Line> = script.chunks_exact(8).map(Line::decode_annotated_in).collect();
+    let past = rule.past_nodes();
+    for _ in 0..g.within(1, 5) {
+        let at = g.below(lines.len() + 1);
+        match g.below(4) {
+            0 | 1 if !past.is_empty() => {
+                let node = g.pick(&past) as u16;
+                guards::insert(&mut lines, at, Line::new(12, 0, node, 0));
+                guards::insert(&mut lines, at, Line::new(9, g.below(2) as u8, node, 0));
+            }
+            2 => guards::insert(&mut lines, at, Line::new(8, 0, 0, 0)),
+            _ => guards::insert(&mut lines, at, Line::new(g.pick(&[1, 2, 3, 14]), g.below(16) as u8, g.below(16) as u16, 0)),
+        }
+    }
+    encode_lines_in(&lines)
 }
 
 /// A table that need not pass any question, and a line at the machine's place that names some node of it, or a number that is no node's.
@@ -572,23 +627,27 @@ pub fn request<W: Form>(seed: u64, n: u64) -> Request<W> {
         }
         17 => {
             let rule = rule(g, again, 50).1;
-            Request::Fresh { rule, state: numbers(g, 21) }
+            Request::Fresh { rule, state: numbers(g, STATE_NUMBERS) }
         }
         _ => {
             let (table, mut rule) = rule(g, again, 30);
             let mut script = annotated(g, &table, 30);
+            if g.chance(1, 2) {
+                script = strayed(g, &table, &script);
+            }
             let inputs = inputs(g, 20);
-            let state = if g.chance(1, 2) {
-                let mut words = vec![0; 21];
-                words[3] = (0..table.len()).filter(|&i| table.nodes[i].kind == 5).map(bit).sum();
-                words
-            } else {
-                state(g, &table, script.len() / 8)
+            let mut history = lent_history(g);
+            let (state, count) = match g.below(8) {
+                // so many that a block of a long rule is gone through
+                0 => (fresh_state(&rule), g.within(40, 300)),
+                1..=3 => (fresh_state(&rule), g.within(1, 40)),
+                4 | 5 => (run_on(g, &rule, &script, &inputs, &mut history), g.within(1, 20)),
+                _ => (state(g, &table, script.len() / 8), g.within(1, 20)),
             };
             if again && g.chance(1, 6) {
                 name_any(g, &mut rule, &mut script, &state);
             }
-            Request::Steps { rule, script, inputs, history: lent_history(g), state: state.into(), count: g.within(1, 30) }
+            Request::Steps { rule, script, inputs, history, state: state.into(), count }
         }
     }
 }

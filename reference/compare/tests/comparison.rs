@@ -1,7 +1,7 @@
 //! The comparison: every function of `include/guard.h` and the reference agree on random requests.
 //! GUARD_SEED and GUARD_REQUESTS set the seed and the number of requests in the first form; a request for steps makes several calls.
-use compare::compare::{compare, put, Met};
-use compare::face::Face;
+use compare::compare::{compare, put, ready_by_definition, started, Met};
+use compare::face::{Face, KEPT, LINE, PRIORS, READY, REGISTERS, STATE_NUMBERS, TESTED};
 use compare::faced::Reference;
 use compare::lent::Lent;
 use compare::proved::{library, Form};
@@ -33,6 +33,9 @@ fn tell(met: &Met) {
     }
     for ((name, stop), n) in &met.stops {
         println!("{n:>10}  {name}, stop {stop}");
+    }
+    for ((name, ready), n) in &met.ready {
+        println!("{n:>10}  {name}, by the definition {}", if *ready { "ready" } else { "not ready" });
     }
     for (name, n) in &met.across {
         println!("{n:>10}  {name}, in both forms");
@@ -76,6 +79,8 @@ fn proved_and_reference_agree() {
     assert_eq!(handed_back, wanted, "each number that a function can hand back, and no other");
     let stops: Vec<(&str, u64)> = ["guard_run", "guard_run64"].into_iter().flat_map(|name| (0..=4).map(move |stop| (name, stop))).collect();
     assert_eq!(met.stops.into_keys().collect::<Vec<_>>(), stops);
+    let defined = ["guard_fresh", "guard_fresh64", "guard_step", "guard_step64"].into_iter().flat_map(|name| [(name, false), (name, true)]);
+    assert_eq!(met.ready.into_keys().collect::<Vec<_>>(), defined.collect::<Vec<_>>());
     // in both forms: the functions of the first, and the moves
     let asked: BTreeSet<&str> = QUESTIONS.iter().map(|(functions, ..)| functions[0]).collect();
     assert_eq!(met.across.into_keys().collect::<BTreeSet<_>>(), asked);
@@ -117,6 +122,9 @@ fn planted_faults_are_noticed() {
         Fault::DecidedAnew,
         Fault::LaterMentionsFree,
         Fault::ZerosPass,
+        Fault::PriorsAreKept,
+        Fault::ReadyBeforeInput,
+        Fault::PriorsMovedAtFull,
     ] {
         println!("{fault:?}: request {}, in the second form {}", noticed(fault, request::<u32>), noticed(fault, request::<u64>));
     }
@@ -219,7 +227,7 @@ fn registers_meet_their_ends() {
                 _ => vec![],
             },
             Request::Run { rule, script, inputs, history, .. } if check_script(&rule, &script).is_ok() => {
-                let mut start: Lent<u64> = vec![0; 21].into();
+                let mut start: Lent<u64> = vec![0; STATE_NUMBERS].into();
                 Reference.fresh(&rule, &mut start);
                 ends_met(&rule, &script, &inputs, history, start, 100)
             }
@@ -561,6 +569,116 @@ fn shared_nodes_meet_their_cases() {
     assert!(met.len() == 41 && met.values().all(|&n| n >= 10), "{} {met:?}", met.len());
 }
 
+/// The opcodes that write a register, and what they meet: one that the state says a test reads, and another.
+const WRITES: [(u8, [&str; 2]); 5] = [
+    (1, ["1 to a tested register", "1 to another"]),
+    (2, ["2 to a tested register", "2 to another"]),
+    (3, ["3 to a tested register", "3 to another"]),
+    (4, ["4 to a tested register", "4 to another"]),
+    (14, ["14 to a tested register", "14 to another"]),
+];
+
+/// What a table is like for which ready is worked out, and which need not pass any question.
+fn table_worked_out<W: Form>(rule: &[W]) -> Vec<&'static str> {
+    let nodes: Vec<Node> = rule.iter().map(|&word| Node::decode_in(word)).collect();
+    let numbered = || nodes.iter().enumerate().take(W::MOST_NODES);
+    let cases = [
+        ("worked out for more than 32 nodes", W::MOST_NODES > 32 && (33..=W::MOST_NODES).contains(&nodes.len())),
+        ("worked out for more nodes than are looked at", nodes.len() > W::MOST_NODES),
+        ("worked out for no nodes", nodes.is_empty()),
+        ("worked out for an operand that is not lower", numbered().any(|(k, d)| d.operands().any(|o| o >= k))),
+        ("worked out for a register above 15", numbered().any(|(_, d)| d.kind == 6 && d.constant > 15)),
+        ("worked out for a kind that is none", numbered().any(|(_, d)| d.kind == 7)),
+    ];
+    cases.into_iter().filter(|case| case.1).map(|case| case.0).collect()
+}
+
+/// What a call for a step meets that was not made, or that stayed where it was.
+fn stay_met(line: Option<Line>, before: &[u64], result: u32) -> Option<&'static str> {
+    let large = (before[REGISTERS..READY].iter().any(|&x| x > 65_535), before[READY] > 1);
+    match (result, large, line?.op) {
+        (98, (true, false), _) => Some("98 for a register"),
+        (98, (false, true), _) => Some("98 for ready"),
+        (98, (true, true), _) => Some("98 for a register and for ready"),
+        (_, _, 8) if before[READY] == 1 => Some("a full present, ready"),
+        (_, _, 8) => Some("a full present, not ready"),
+        (_, _, 4) => Some("an input when none is left"),
+        _ => None,
+    }
+}
+
+/// What a step meets that was made.
+fn move_met<W: Form>(rule: &[W], l: Line, before: &[u64], after: &[u64]) -> Vec<&'static str> {
+    let tested = before[TESTED] & bit(l.r as usize) != 0;
+    let mut met = vec![];
+    match l.op {
+        8 => met.push(if before[READY] == 1 { "a presentation, ready" } else { "a presentation, not ready" }),
+        1..=4 | 14 => met.extend(WRITES.iter().filter(|(op, _)| *op == l.op).map(|(_, names)| names[!tested as usize])),
+        op if before[READY..STATE_NUMBERS] == after[READY..STATE_NUMBERS] => met.extend((op == 12).then_some("a kept bit set")),
+        _ => unreachable!("no other step changes it"),
+    }
+    if l.op == 8 || matches!(l.op, 1..=4 | 14) && tested {
+        met.extend(table_worked_out(rule));
+    }
+    met.extend(match (before[READY], after[READY]) {
+        (0, 1) => Some("it becomes ready"),
+        (1, 0) => Some("it is ready no longer"),
+        _ => None,
+    });
+    met
+}
+
+/// What the steps of a request meet of a state's readiness.
+fn readiness_met<W: Form>(mut asked: Request<W>) -> Vec<&'static str> {
+    let rule_passes = started(&asked);
+    let past: u64 = rule_passes.iter().flat_map(Rule::past_nodes).map(bit).sum();
+    let mut met = vec![];
+    for _ in 0..asked.calls() {
+        let before = asked.clone();
+        let result = asked.put(&Reference);
+        let (Request::Steps { state, .. }, Request::Steps { rule, script, state: after, .. }) = (&before, &asked) else { break };
+        if result == 99 {
+            break;
+        }
+        let at = 8 * state[LINE].min(2_000) as usize;
+        let line = script.get(at..at + 8).map(Line::decode_annotated_in);
+        if before == asked {
+            met.extend(stay_met(line, state, result));
+            break;
+        }
+        met.extend(move_met(rule, line.expect("a step was made"), state, after));
+        if let Some(table) = &rule_passes {
+            let ready = ready_by_definition(table, &asked);
+            let spoiled = (after[KEPT] ^ after[PRIORS]) & past != 0;
+            met.push(match (spoiled, ready) {
+                (false, false) => "from a fresh start, not ready",
+                (false, true) => "from a fresh start, ready",
+                (true, false) => "from a fresh start, kept bits that are not the priors, not ready",
+                (true, true) => "from a fresh start, kept bits that are not the priors, ready",
+            });
+        }
+    }
+    met
+}
+
+/// The requests for steps meet each way in which whether a machine is ready changes or stays, from fresh starts and from any state.
+fn readiness_meets_its_cases_in<W: Form>(requests: u64, cases: usize) {
+    let mut met: BTreeMap<&str, u32> = BTreeMap::new();
+    for asked in (0..requests).map(|n| request::<W>(SEED, n)).filter(|asked| matches!(asked, Request::Steps { .. })) {
+        for name in readiness_met(asked) {
+            *met.entry(name).or_default() += 1;
+        }
+    }
+    println!("{met:#?}");
+    assert!(met.len() == cases && met.values().all(|&n| n >= 10), "{} {met:?}", met.len());
+}
+
+#[test]
+fn readiness_meets_its_cases() {
+    readiness_meets_its_cases_in::<u32>(60_000, 30);
+    readiness_meets_its_cases_in::<u64>(60_000, 31);
+}
+
 /// Every length of lent numbers, from none to two more than are needed, for answers of each kind.
 fn lent_lengths_in<W: Form>() {
     let (test, since) = (|register| Node::new(1, register, 1, 0, 0), Node::new(4, 0, 0, 0, 1));
@@ -573,7 +691,7 @@ fn lent_lengths_in<W: Form>() {
     // the present before its guard
     let lost = [&[8 << 28], &stripped[1..]].concat();
     for script in [&woven[..], &woven[..127], &[]] {
-        for length in 0..=24 {
+        for length in 0..=28 {
             let numbers = || Lent::from((100..100 + length).collect::<Vec<u64>>());
             for (space, room) in [(0, 0), (15, 127), (16, 128), (47, 129), (48, 200)] {
                 let (rule, script, inputs) = (|| rule.clone(), || script.to_vec(), || inputs.clone());

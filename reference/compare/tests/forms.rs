@@ -1,6 +1,7 @@
 //! The two stored forms and the moves between them: every count of nodes, every bit of a node and of a line, every operand, fact and named
 //! node, and what the random requests meet of these.
 use compare::compare::{across, put, there_and_back, Met};
+use compare::face::{KEPT, NEXT_PRIORS, PRIORS, READY, STATE_NUMBERS, TESTED, WORK};
 use compare::faced::Reference;
 use compare::lent::Lent;
 use compare::proved::Form;
@@ -62,12 +63,29 @@ fn numbers(words: usize) -> Lent<u64> {
     room(words)
 }
 
+/// A state that no run has: bits of every node, and every register tested.
+fn odd_state() -> Vec<u64> {
+    let mut state = vec![0; STATE_NUMBERS];
+    (state[KEPT], state[WORK]) = (0x5555_5555_5555_5555, 0x3333_3333_3333_3333);
+    (state[READY], state[PRIORS], state[NEXT_PRIORS], state[TESTED]) = (1, 0x0f0f_0f0f_0f0f_0f0f, 0x00ff_00ff_00ff_00ff, !0);
+    state
+}
+
+/// Steps of these lines from a state.
+fn of_state<W: Form>(rule: &[W], lines: &[Line], state: Vec<u64>) -> Request<W> {
+    let (script, history) = (encode_lines_in(lines), vec![9; 50].into());
+    Request::Steps { rule: rule.to_vec(), script, inputs: vec![1; 9], history, state: state.into(), count: lines.len() }
+}
+
+/// Two writes of a register and two presentations.
+fn writes_and_presents() -> [Line; 4] {
+    [Line::new(1, 1, 1, 0), Line::new(8, 0, 0, 0), Line::new(14, 1, 1, 0), Line::new(8, 0, 0, 0)]
+}
+
 /// Every function that takes an annotated script.
 fn of_script<W: Form>(rule: &[W], script: &[W]) -> Vec<Request<W>> {
     let (rule, script) = (|| rule.to_vec(), || script.to_vec());
-    let mut state = vec![0; 21];
-    (state[3], state[4]) = (0x5555_5555_5555_5555, 0x3333_3333_3333_3333);
-    let (inputs, history, state) = (vec![1; 9], || vec![9; 50].into(), state.into());
+    let (inputs, history, state) = (vec![1; 9], || vec![9; 50].into(), odd_state().into());
     vec![
         Request::Script { rule: rule(), script: script(), numbers: numbers(1) },
         Request::Run { rule: rule(), script: script(), inputs: inputs.clone(), budget: 99, history: history(), numbers: numbers(22) },
@@ -87,7 +105,8 @@ fn of_rule<W: Form>(rule: &[W]) -> Vec<Request<W>> {
         Request::Weave { rule: rule(), bare: bare(), out: room(8 * 1024), numbers: numbers(2) },
         Request::Facts { rule: rule(), instructions: bare(), out: room(8 * 3), numbers: numbers(2) },
         Request::Judge { rule: rule(), history: [[1; 16], [0; 16], [1; 16]].concat(), numbers: numbers(4) },
-        Request::Fresh { rule: rule(), state: numbers(21) },
+        Request::Fresh { rule: rule(), state: numbers(STATE_NUMBERS) },
+        of_state(&rule(), &writes_and_presents(), odd_state()),
         Request::MoveRule { rule: rule(), out: room(rule().len()), numbers: numbers(2) },
         Request::MoveRule { rule: rule(), out: room(rule().len().saturating_sub(1)), numbers: numbers(2) },
     ]);
@@ -251,6 +270,47 @@ fn every_named_node() {
     every_named_node_in(FIRST, &mut met);
     every_named_node_in(SECOND, &mut met);
     println!("{met:?}");
+}
+
+/// Each prior, next prior and tested register by itself, for rules on either side of 32 nodes and of the most and for one whose nodes are
+/// sinces of the test before them; each register written by each opcode that does; and ready up to 2 and as large as can be.
+fn every_bit_of_readiness_in<W: Form>(ways: &[Way<W>], met: &mut Met) {
+    let mut g = Rng(10);
+    let mut rules: Vec<Vec<Node>> = [1, 31, 32, 33, 63, 64].into_iter().map(|n| generate::sharing_rule(&mut g, n).nodes).collect();
+    rules.push((0..W::MOST_NODES).map(|i| if i == 0 { TEST } else { since(0, i - 1) }).collect());
+    rules.push(chain::<W>(W::MOST_NODES));
+    for nodes in rules.iter().filter(|nodes| nodes.len() <= W::MOST_NODES) {
+        let rule: Vec<W> = encoded(nodes);
+        for (k, at) in (0..64).flat_map(|k| [PRIORS, NEXT_PRIORS, TESTED].map(|at| (k, at))) {
+            for others in [0, !0] {
+                let mut state = odd_state();
+                state[at] = others ^ bit(k);
+                ask(ways, [of_state(&rule, &writes_and_presents(), state)], met);
+            }
+        }
+        for (r, op) in (0..16).flat_map(|r| [1, 2, 3, 4, 14].map(|op| (r, op))) {
+            let line = Line::new(op, r, if op == 4 { 0 } else { 1 }, 0);
+            for tested in [0, bit(r as usize), !bit(r as usize), !0] {
+                let mut state = odd_state();
+                state[TESTED] = tested;
+                ask(ways, [of_state(&rule, &[line], state)], met);
+            }
+        }
+        for ready in [0, 1, 2, 1 << 32, 1 << 63, u64::MAX] {
+            let mut state = odd_state();
+            state[READY] = ready;
+            ask(ways, [of_state(&rule, &writes_and_presents(), state)], met);
+        }
+    }
+}
+
+#[test]
+fn every_bit_of_readiness() {
+    let mut met = Met::default();
+    every_bit_of_readiness_in(FIRST, &mut met);
+    every_bit_of_readiness_in(SECOND, &mut met);
+    println!("{met:?}");
+    assert!(["guard_step", "guard_step64"].iter().all(|name| met.results[&(*name, 98)] > 0));
 }
 
 /// Moves into every length of output, from none to two words more than are needed.

@@ -1,6 +1,6 @@
 //! How much stack each function of `include/guard.h` takes: it is called on a painted stack, with rules and texts of the deepest nesting,
 //! full scripts and random requests, and what was painted over is counted. The header says these numbers; they are not proved.
-use compare::face::Face;
+use compare::face::{Face, STATE_NUMBERS};
 use compare::proved::{library, Form, Function, Library};
 use compare::request::Request;
 use compare::requests::{moving, request};
@@ -151,7 +151,10 @@ fn full_requests<W: Form>(rule: Vec<W>) -> Vec<Request<W>> {
     let stripped = out.chunks(8).map(|line| Line::decode_annotated_in(line).word()).collect();
     let (rule, script) = (|| rule.clone(), || out.clone());
     let (inputs, history) = (|| vec![1; 5_000], || vec![0; 16 * 1_000]);
-    let (numbers, state) = (|| numbers.to_vec().into(), || vec![0; 21].into());
+    // a fresh one, so that writes of registers that the rule tests work out whether it is ready
+    let mut fresh = [0; STATE_NUMBERS];
+    assert_eq!(library().fresh(&rule(), &mut fresh), 0);
+    let (numbers, state) = (|| numbers.to_vec().into(), || fresh.to_vec().into());
     let moved = || vec![W::Other::from(0); 8 * 1024].into();
     vec![
         Request::Rule { rule: rule(), numbers: numbers() },

@@ -1,6 +1,6 @@
 //! The run over decoded lines, and the single step over stored ones.
 use super::form::Set;
-use super::rule::{kind_of, IMPLIES, SINCE, WEAK_PREVIOUS};
+use super::rule::{kind_of, BELOW, EQUAL, EQUAL_REGISTERS, IMPLIES, SINCE, WEAK_PREVIOUS};
 use super::script::{check_script, is_allowed, ANNOTATED};
 use super::{numbers_small, No};
 
@@ -116,11 +116,68 @@ fn mentioned_twice<W: Set>(rule: &[W], c: u64) -> bool {
     rule.iter().take(W::MOST_NODES).map(mentions).sum::<u32>() > 1
 }
 
+/// Whether a presentation would keep the rule, and the priors that it would leave, for a table that need not be a rule. A node that is not
+/// worked out yet is 0. Values stand apart in memory, so that a node waits for its operands alone.
+fn worked_out<W: Set>(rule: &[W], registers: &[u64; 16], priors: u64) -> (u64, u64) {
+    let mut values = [0u8; 64];
+    let (mut next, mut last) = (0u64, 0);
+    for (k, &word) in rule.iter().take(W::MOST_NODES).enumerate() {
+        let w = word.top();
+        let test = || (registers[(w >> 57 & 15) as usize], w >> 43 & 0x3fff);
+        let of = |operand: u32| values[W::place((w >> (43 - operand * W::OPERAND)) as usize)];
+        let prior = (priors >> (63 - k)) as u8 & 1;
+        let (value, left_behind) = match kind_of(word) {
+            EQUAL => ((test().0 == test().1) as u8, 0),
+            BELOW => ((test().0 < test().1) as u8, 0),
+            EQUAL_REGISTERS => ((test().0 == registers.get(test().1 as usize).map_or(0, |&x| x)) as u8, 0),
+            IMPLIES => (of(1) ^ 1 | of(2), 0),
+            SINCE => {
+                let now = of(2) | of(1) & prior;
+                (now, now)
+            }
+            WEAK_PREVIOUS => (prior, of(1)),
+            _ => (0, 0),
+        };
+        last = value;
+        values[k & 63] = value;
+        next |= (left_behind as u64) << (63 - k);
+    }
+    (last as u64, next)
+}
+
+/// The registers that the tests of a table read, register 0 the most significant bit, and the weak previouses among its nodes.
+fn tested_and_weak<W: Set>(rule: &[W]) -> (u64, u64) {
+    let register = |r: u64| if r < 16 { 1 << (63 - r) } else { 0 };
+    let (mut tested, mut weak) = (0, 0);
+    for (k, &word) in rule.iter().take(W::MOST_NODES).enumerate() {
+        let w = word.top();
+        match kind_of(word) {
+            EQUAL | BELOW => tested |= register(w >> 57 & 15),
+            EQUAL_REGISTERS => tested |= register(w >> 57 & 15) | register(w >> 43 & 0x3fff),
+            WEAK_PREVIOUS => weak |= 1 << (63 - k),
+            _ => {}
+        }
+    }
+    (tested, weak)
+}
+
+/// The fresh start, as `guard_fresh` writes it: 0 or 99.
+pub fn fresh<W: Set>(rule: &[W], state: &mut [u64]) -> u32 {
+    let Some(state) = state.first_chunk_mut::<25>() else { return 99 };
+    let (tested, weak) = tested_and_weak(rule);
+    let (ready, next) = worked_out(rule, &[0; 16], weak);
+    *state = [0; 25];
+    state[3] = weak;
+    [state[21], state[22], state[23], state[24]] = [ready, weak, next, tested];
+    0
+}
+
 /// One step of the machine in `state`, as `guard_step` makes it: 0, 98 or 99.
 pub fn step<W: Set>(rule: &[W], script: &[W], inputs: &[u16], history: &mut [u16], state: &mut [u64]) -> u32 {
     let Some((counts, rest)) = state.split_first_chunk_mut::<5>() else { return 99 };
-    let Some(registers) = rest.first_chunk_mut::<16>() else { return 99 };
-    if registers.iter().fold(0, |a, &b| a | b) > 65_535 {
+    let Some((registers, rest)) = rest.split_first_chunk_mut::<16>() else { return 99 };
+    let Some([ready, priors, next_priors, tested]) = rest.first_chunk_mut::<4>() else { return 99 };
+    if registers.iter().fold(0, |a, &b| a | b) > 65_535 || *ready > 1 {
         return 98;
     }
     let [line, presentations, read, kept, work] = counts;
@@ -141,6 +198,8 @@ pub fn step<W: Set>(rule: &[W], script: &[W], inputs: &[u16], history: &mut [u16
     let node = 1 << (63 - W::place(c));
     let target = l.target as u64;
     let next = *line + 1;
+    // a presentation, or a write of a register that a test reads
+    let anew = l.op == 8 || matches!(l.op, 1..=4 | 14) && *tested << r >> 63 == 1;
     *line = match l.op {
         0 => return 0,
         1 => {
@@ -169,6 +228,7 @@ pub fn step<W: Set>(rule: &[W], script: &[W], inputs: &[u16], history: &mut [u16
             let Some(place) = from.and_then(|i| history.get_mut(i..)).and_then(|h| h.first_chunk_mut::<16>()) else { return 0 };
             *place = registers.map(|x| x as u16);
             *presentations += 1;
+            *priors = *next_priors;
             next
         }
         9 => {
@@ -188,5 +248,8 @@ pub fn step<W: Set>(rule: &[W], script: &[W], inputs: &[u16], history: &mut [u16
         }
         _ => next,
     };
+    if anew {
+        (*ready, *next_priors) = worked_out(rule, registers, *priors);
+    }
     0
 }
