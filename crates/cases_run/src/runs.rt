@@ -91,6 +91,23 @@ fn step_in(
     m.step(rule, script, inputs, history)
 }
 
+// How many states were ready, the next one included; it stops at the largest number.
+fn count_ready(count: u64, ready: bool) -> u64 {
+    if ready {
+        if count < 18446744073709551615 {
+            return count + 1;
+        }
+    }
+    count
+}
+
+// Whether the last state is ready, and how many of all of them are.
+fn print_ready(ready: bool, count: u64) {
+    say(b"ready");
+    print_number(if ready { 1 } else { 0 });
+    print_named(b"", count);
+}
+
 fn answer_steps(
     rule: &[u32],
     script: &[u32],
@@ -102,10 +119,12 @@ fn answer_steps(
     history: &mut [u16],
 ) {
     let mut m = fresh_in(rule, rule64, is_wide);
+    let mut ready = count_ready(0, m.readiness.ready);
     let mut i: u64 = 0;
     while i < count {
-        m = step_in(m, rule, script, rule64, script64, is_wide, inputs, history);
         i += 1;
+        m = step_in(m, rule, script, rule64, script64, is_wide, inputs, history);
+        ready = count_ready(ready, m.readiness.ready);
     }
     let registers = m.registers;
     say(b"stepped\n");
@@ -115,6 +134,7 @@ fn answer_steps(
     print_bits(b"work", rule, rule64, is_wide, true, m.work);
     print_named(b"presentations", m.presentations as u64);
     print_named(b"reads", m.reads as u64);
+    print_ready(m.readiness.ready, ready);
     print_numbers(b"history", &history[..]);
 }
 

@@ -7,23 +7,30 @@ use Rattle.cases_run.proofs.runs.answer_steps.Statement.{statement}
 use Rattle.cases_run.proofs.runs.answer_steps.Tie as tie
 
 abbrev Inv-loop : tie.InvT-loop
-Inv-loop rule script rule64 script64 is-wide inputs count history₀ m₀ i₀ t12 t13 t14 t15 t16 t17 t18 t19 history m i =
+Inv-loop rule script rule64 script64 is-wide inputs count history₀ m₀ ready₀ i₀ t13 t14 t15 t16 t17 t18 t19 t20 history m ready i =
     (i ≤ count) × (length history ≡ length history₀) × (length (m .registers) ≡ 16)
 
 abbrev μ-loop : tie.MeasureT-loop
-μ-loop rule script rule64 script64 is-wide inputs count history₀ m₀ i₀ t12 t13 t14 t15 t16 t17 t18 t19 history m i = count - i
+μ-loop rule script rule64 script64 is-wide inputs count history₀ m₀ ready₀ i₀ t13 t14 t15 t16 t17 t18 t19 t20 history m ready i =
+    count - i
 
 fresh-in-requires : tie.Need-fresh-in-requires Inv-loop μ-loop
 fresh-in-requires c κs = search needs
 
+count-ready-requires : tie.Need-count-ready-requires Inv-loop μ-loop
+count-ready-requires c κs = search needs
+
 loop-holds : tie.Need-loop-holds Inv-loop μ-loop
 loop-holds c = search needs
+
+add-i : tie.Need-add-i Inv-loop μ-loop
+add-i c = search needs
 
 step-in-requires : tie.Need-step-in-requires Inv-loop μ-loop
 step-in-requires c κs = search needs
 
-add-i : tie.Need-add-i Inv-loop μ-loop
-add-i c = search needs
+count-ready-requires-2 : tie.Need-count-ready-requires-2 Inv-loop μ-loop
+count-ready-requires-2 c κs = search needs
 
 loop-less : tie.Need-loop-less Inv-loop μ-loop
 loop-less c = search needs
@@ -76,6 +83,9 @@ slice-aggregate-print-named-3 c = search needs
 print-named-requires-3 : tie.Need-print-named-requires-3 Inv-loop μ-loop
 print-named-requires-3 c κs = search needs
 
+print-ready-requires : tie.Need-print-ready-requires Inv-loop μ-loop
+print-ready-requires c κs = search needs
+
 slice-aggregate-print-numbers-3 : tie.Need-slice-aggregate-print-numbers-3 Inv-loop μ-loop
 slice-aggregate-print-numbers-3 c = search needs
 
@@ -95,9 +105,11 @@ answer-steps-spec =
     Inv-loop
     μ-loop
     fresh-in-requires
+    count-ready-requires
     loop-holds
-    step-in-requires
     add-i
+    step-in-requires
+    count-ready-requires-2
     loop-less
     loop-again
     slice-aggregate-say
@@ -115,6 +127,7 @@ answer-steps-spec =
     print-named-requires-2
     slice-aggregate-print-named-3
     print-named-requires-3
+    print-ready-requires
     slice-aggregate-print-numbers-3
     print-numbers-requires-2
     same-length
