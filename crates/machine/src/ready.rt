@@ -1,8 +1,8 @@
 // Whether a presentation made now would keep the rule. It is worked out anew where a register that the rule reads was written or a
 // presentation made, and nowhere else; all nodes once.
-use rule::monitor::evaluate;
+use rule::answer::Found;
+use rule::judging::watch;
 use rule::monitor::first_priors;
-use rule::monitor::last_true;
 use rule::monitor::tested_registers;
 use rule::stored::widen_rule;
 use script::instruction::Instruction;
@@ -14,10 +14,11 @@ ghost use lib.ListN.{length};
 ghost use Rattle.spec.specs.Rule.{Table};
 ghost use Rattle.spec.specs.Ready.{workedOut, firstReadiness, readyMove};
 ghost use Rattle.sets.specs.Sets.{capacity, setOf};
+ghost use Rattle.rule.specs.Answers.{foundOf};
 ghost use Rattle.rule.specs.Nodes.{formBy, storedIn, tableIn, tableBy};
 ghost use Rattle.script.specs.Lines.{fieldsIn, instructionIn};
 ghost use Rattle.machine.specs.Machines.{readinessOf, writesRegister};
-ghost use Rattle.machine.specs.Renewals.{renewed};
+ghost use Rattle.machine.specs.Renewals.{noneFound, renewed};
 
 // No instruction but a present changes the priors: kept bits are the script's, these are not.
 pub struct Readiness {
@@ -37,16 +38,27 @@ pub(crate) enum Renewal {
     From(u64),
 }
 
-// Worked out from the registers and these priors.
+// Whether the rule is false at no state that was looked at.
+fn is_nothing(found: Found) -> bool
+    ensures { λ r. ⌜ r ≡ noneFound (foundOf found) ⌝ }
+{
+    match found {
+        Found::At(_) => false,
+        Found::Nothing => true,
+    }
+}
+
+// Worked out from the registers and these priors, as the judge does it of a state.
 fn work_out(rule: &[u64], registers: [u16; 16], priors: u64, tested: u64) -> Readiness
     requires { ⌜ length (now rule) ≤ capacity ⌝ }
     ensures { λ r. ⌜ readinessOf r ≡ workedOut (tableIn (now (rule .entry))) registers (setOf priors) (setOf tested) ⌝ }
 {
-    let m = evaluate(rule, &registers, priors);
+    let w = watch(rule, &registers, priors);
+    let found = w.found;
     Readiness {
-        ready: last_true(rule, m),
+        ready: is_nothing(found),
         priors,
-        next: m.priors,
+        next: w.priors,
         tested,
     }
 }

@@ -1,29 +1,37 @@
--- `machine::ready::work_out` meets its contract. Assumes nothing.
-use mathlib.Core.Path.{_≡_, ap, _∙_}
-use Rattle.spec.specs.Monitor.{lastTrue, momentOf}
+-- `machine::ready::work_out` meets its contract: a monitor over one state (`WatchLaws.watch-one` of crate rule). Assumes nothing.
+use mathlib.Core.Path.{_≡_, refl, ap, _∙_}
+use mathlib.Core.Bool.{Bool, true, false, cond}
+use mathlib.Core.Option.{none, some}
+use lib.ListN.{length}
 use Rattle.sets.specs.Sets.{setOf}
 use Rattle.rule.specs.Nodes.{tableIn}
+use Rattle.rule.proofs.WatchLaws.{watch-one}
+use Rattle.machine.specs.Renewals.{noneFound}
 use borrow.Author.Needs.{needs}
 use Rattle.machine.proofs.ready.work_out.Statement.{statement}
 use Rattle.machine.proofs.ready.work_out.Tie as tie
 
-slice-aggregate-evaluate : tie.Need-slice-aggregate-evaluate
-slice-aggregate-evaluate c = search needs
+none-is : (b : Bool) → noneFound (cond b none (some 0)) ≡ b
+none-is true = refl
+none-is false = refl
 
-evaluate-requires : tie.Need-evaluate-requires
-evaluate-requires c κs = search needs
+slice-aggregate-watch : tie.Need-slice-aggregate-watch
+slice-aggregate-watch c = search needs
 
-last-true-requires : tie.Need-last-true-requires
-last-true-requires c κs = search needs
+watch-requires : tie.Need-watch-requires
+watch-requires c κs = search needs
+
+is-nothing-requires : tie.Need-is-nothing-requires
+is-nothing-requires c κs = search needs
 
 returns : tie.Need-returns
 returns c =
     let a = c .before .before .before .before .args in
-    let t = tableIn (a .rule .now) in
-    let moment = c .before .evaluate .ensures in
-    let ready : c .last-true .result ≡ lastTrue t (momentOf t (a .t2) (setOf (a .priors))) = c .last-true .ensures ∙ ap (lastTrue t) moment in
-    λ i. record { ready = ready i; priors = setOf (a .priors); next = moment i .priors; tested = setOf (a .tested) }
+    let sixteen : length (a .t2) ≡ 16 = search needs in
+    let told = c .before .watch .ensures ∙ watch-one (tableIn (a .rule .now)) (a .t2) (setOf (a .priors)) sixteen in
+    let ready = c .is-nothing .ensures ∙ ap (λ w. noneFound (w .found)) told ∙ none-is _ in
+    λ i. record { ready = ready i; priors = setOf (a .priors); next = told i .priors; tested = setOf (a .tested) }
 
 pub work-out-spec : {M : Type 1} → statement M
 work-out-spec =
-    tie.close (tie.spec slice-aggregate-evaluate evaluate-requires last-true-requires returns)
+    tie.close (tie.spec slice-aggregate-watch watch-requires is-nothing-requires returns)
