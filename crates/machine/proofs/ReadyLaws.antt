@@ -3,12 +3,11 @@
 --     renew-present, renew-write, renew-not    what an instruction does to it, by opcode
 --     first-ready, fresh-state            the fresh start
 --     few-wide, few-narrow, table-wide, table-narrow    a rule in either form
---     stopped, going                      what comes before a step
---     state-not, state-stopped, state-step     one step of a stored script
+--     state-not, state-step               one step of a stored script
 --     state-cut                           only as many nodes as the form allows are looked at
 -- Assumes nothing.
 use mathlib.Core.Path.{_≡_, refl, sym, ap, ap₂, _∙_}
-use mathlib.Core.Bool.{Bool, true, false, cond, _&&_, _||_}
+use mathlib.Core.Bool.{Bool, true, false, cond, not, _&&_, _||_}
 use mathlib.Core.Option.{Option, none, some}
 use mathlib.Core.List.{List}
 use Prim.Native.Nat.{ℕ, _≤_}
@@ -16,16 +15,14 @@ use native.Mathlib.Omega.{arith}
 use lib.Dec.{eqb, leb, ltb}
 use lib.ListN.{length, getD, take, List·getD-eq-default}
 use lib.Seq.{take-all}
-use borrow.Author.Tests.{lt-leb, ne-eqb}
+use borrow.Author.Tests.{lt-leb, eqb-true, eq-eqb, ne-eqb}
 use Rattle.spec.specs.Logic.{State}
-use Rattle.spec.specs.Questions.{Answer}
 use Rattle.spec.specs.Rule.{Form, form32, form64, Table, tableOf}
 use Rattle.spec.specs.Monitor.{ruleReads}
-use Rattle.spec.specs.Script.{Instruction, halt, Fields, byOpcode, instructionOf, instructionAt, annotatedOpcode, lineAllowed}
+use Rattle.spec.specs.Script.{Instruction, halt, write, branch, goto, present, setWork, keep, Fields, byOpcode, instructionOf, instructionAt, annotatedOpcode, lineAllowed}
 use Rattle.spec.specs.Check.{codeOf, annotatedStored, linesOf}
-use Rattle.spec.specs.Machine.{Machine, machine, zeros, fresh, freshOf, move, Stop, stops, step, acting, tableWithin, canRun, stepOf}
-use Rattle.spec.specs.Ready.{Readiness, MachineState, workedOut, firstReadiness, readyMove, readyActing, freshStateOf, readyStepOf, stateStepOf}
-use Rattle.spec.proofs.ReadyLaws.{stop-same}
+use Rattle.spec.specs.Machine.{Machine, machine, zeros, fresh, freshOf, move, Stop, stops, step, unlessStopped, acting, tableWithin, canRun, stepOf}
+use Rattle.spec.specs.Ready.{Readiness, MachineState, workedOut, firstReadiness, readyMove, readyUnless, readyActing, freshStateOf, readyStepOf, stateStepOf}
 use Rattle.spec.proofs.BoolLaws.{clash}
 use Rattle.spec.proofs.OpcodeLaws.{by-opcode}
 use Rattle.rule.specs.Monitor.{firstPriors}
@@ -36,7 +33,6 @@ use Rattle.sets.proofs.SetLaws.{empty-is}
 use Rattle.rule.specs.Nodes.{formIn, formBy, storedIn, tableIn, tableBy}
 use Rattle.script.specs.Lines.{lineIn}
 use Rattle.machine.specs.Machines.{writesRegister}
-use Rattle.machine.specs.Runs.{stopBefore}
 use Rattle.machine.proofs.StepLaws.{instruction-at, step-is, few-cut}
 use Rattle.machine.proofs.StartLaws.{first-priors}
 
@@ -60,12 +56,12 @@ module _ (f : Fields) where
       both-false false = refl
 
   module _ (t : Table) (s : State) (x : Readiness) where
-    abbrev after : Readiness
-    after = readyMove t (instructionOf f) s x
+    abbrev after : Bool → Readiness
+    after done = cond done (readyMove t (instructionOf f) s x) x
 
-    pub renew-present : f .opcode ≡ 8 → workedOut t s (x .next) (x .tested) ≡ after
+    pub renew-present : (done : Bool) → done ≡ true → f .opcode ≡ 8 → workedOut t s (x .next) (x .tested) ≡ after done
     unfolding instructionOf readyMove
-    renew-present e = rw e
+    renew-present done d e = rw (d, e)
 
     -- the instruction writes register r, or leaves it
     renew-at : (b : Bool) → x .tested (f .r) ≡ b → (k : ℕ) → (k ≡ 8 → ⊥)
@@ -76,15 +72,15 @@ module _ (f : Fields) where
         (λ n. refl) (λ n. rw e) (λ n. rw e) (λ n. rw e) (λ n. rw e) (λ n. refl) (λ n. refl) (λ n. refl) (λ n. absurd (n refl)) (λ n. refl) (λ n. refl)
         (λ n. refl) (λ n. refl) (λ n. refl) (λ n. rw e) (λ k h n. ap (λ i. cond (writesRegister i && b) (workedOut t s (x .priors) (x .tested)) x) (sym (high k h)) ∙ ap (λ i. readyMove t i s x) (high k h))
 
-    renew-is : (f .opcode ≡ 8 → ⊥) → cond (writesRegister (instructionOf f) && x .tested (f .r)) (workedOut t s (x .priors) (x .tested)) x ≡ after
+    renew-is : (f .opcode ≡ 8 → ⊥) → cond (writesRegister (instructionOf f) && x .tested (f .r)) (workedOut t s (x .priors) (x .tested)) x ≡ after true
     unfolding instructionOf
     renew-is n = renew-at (x .tested (f .r)) refl (f .opcode) n
 
-    pub renew-write : (f .opcode ≡ 8 → ⊥) → (writesRegister (instructionOf f) && x .tested (f .r)) ≡ true → workedOut t s (x .priors) (x .tested) ≡ after
-    renew-write n e = ap (λ b. cond b (workedOut t s (x .priors) (x .tested)) x) (sym e) ∙ renew-is n
+    pub renew-write : (done : Bool) → done ≡ true → (f .opcode ≡ 8 → ⊥) → (writesRegister (instructionOf f) && x .tested (f .r)) ≡ true → workedOut t s (x .priors) (x .tested) ≡ after done
+    renew-write done d n e = rw d (ap (λ b. cond b (workedOut t s (x .priors) (x .tested)) x) (sym e) ∙ renew-is n)
 
-    pub renew-not : (f .opcode ≡ 8 → ⊥) → (writesRegister (instructionOf f) && x .tested (f .r)) ≡ false → x ≡ after
-    renew-not n e = ap (λ b. cond b (workedOut t s (x .priors) (x .tested)) x) (sym e) ∙ renew-is n
+    pub renew-not : (done : Bool) → done ≡ true → (f .opcode ≡ 8 → ⊥) → (writesRegister (instructionOf f) && x .tested (f .r)) ≡ false → x ≡ after done
+    renew-not done d n e = rw d (ap (λ b. cond b (workedOut t s (x .priors) (x .tested)) x) (sym e) ∙ renew-is n)
 
 -- ---- the fresh start
 
@@ -120,18 +116,6 @@ module _ (narrow wide : List ℕ) where
   table-narrow true e table d = clash refl e
   table-narrow false e table d = ap tableIn d ∙ table-widen narrow
 
--- ---- what comes before a step
-
-pub stopped : (o : Option Stop) (q : Answer Stop) → stopBefore false o ≡ some q → (s : Stop) × (o ≡ some s)
-unfolding stopBefore
-stopped none q e = let z : _≡_ {A = ℕ} 0 1 = cc in absurd (omega arith)
-stopped (some s) q e = (s, refl)
-
-pub going : (o : Option Stop) → stopBefore false o ≡ none → o ≡ none
-unfolding stopBefore
-going none e = refl
-going (some s) e = cc
-
 -- ---- one step
 
 module _ (b : Bool) (rules script wide inputs : List ℕ) (x : MachineState) where
@@ -151,23 +135,46 @@ module _ (b : Bool) (rules script wide inputs : List ℕ) (x : MachineState) whe
   here : instructionAt (codeOf (linesOf (formBy b) (storedIn b script wide))) (m .line) ≡ i
   here = instruction-at b script wide (m .line)
 
-  pub state-stopped : (s : Stop) → stops inputs i m ≡ some s → x ≡ next
-  state-stopped s e = sym (stop-same (formBy b) rules (storedIn b script wide) inputs x s (ap (λ j. stops inputs j m) here ∙ e))
+  -- an instruction that leaves the machine at its line leaves readiness
+  stays : (i : Instruction) (t : Table) (s : State) → move inputs i m .line ≡ m .line → readyMove t i s (x .readiness) ≡ x .readiness
+  unfolding move readyMove
+  stays halt t s e = refl
+  stays (write r v) t s e = absurd (omega (arith, e))
+  stays (branch q l) t s e = refl
+  stays (goto l) t s e = refl
+  stays present t s e = absurd (omega (arith, e))
+  stays (setWork k b) t s e = refl
+  stays (keep k) t s e = refl
 
-  module _ (can : canRun (formBy b) rules (storedIn b script wide) (m .line) ≡ true) (goes : stops inputs i m ≡ none) where
-    ready-step : (m′ : Machine) → m′ ≡ acting inputs i m → (y : Readiness)
-        → y ≡ readyMove (tableWithin (formBy b) rules) i (m′ .registers) (x .readiness)
-        → y ≡ readyStepOf (formBy b) rules (storedIn b script wide) inputs m (x .readiness)
+  -- so whether it was done shows in the line
+  done-is : (t : Table) (i : Instruction) (m′ : Machine) → m′ ≡ acting inputs i m → (done : Bool) → done ≡ not (eqb (m′ .line) (m .line))
+      → cond done (readyMove t i (m′ .registers) (x .readiness)) (x .readiness) ≡ readyActing t inputs i m (x .readiness)
+  done-is t i m′ d done e = go (stops inputs i m) d (eqb (m′ .line) (m .line)) refl
+    where
+      y : Readiness
+      y = x .readiness
+
+      go : (o : Option Stop) → m′ ≡ unlessStopped o m (move inputs i m) → (same : Bool) → eqb (m′ .line) (m .line) ≡ same
+          → cond done (readyMove t i (m′ .registers) y) y ≡ readyUnless o y (readyMove t i (move inputs i m .registers) y)
+      go none d true q =
+          rw (e ∙ ap not q) (sym (stays i t (move inputs i m .registers) (ap (λ (n : Machine). n .line) (sym d) ∙ eqb-true (m′ .line) (m .line) q)))
+      go none d false q = rw (e ∙ ap not q) (ap (λ (n : Machine). readyMove t i (n .registers) y) d)
+      go (some s) d same q = rw (e ∙ ap not (eq-eqb (m′ .line) (m .line) (ap (λ (n : Machine). n .line) d)))
+
+  module _ (can : canRun (formBy b) rules (storedIn b script wide) (m .line) ≡ true) where
+    ready-step : (t : Table) → t ≡ tableWithin (formBy b) rules → (m′ : Machine) → m′ ≡ acting inputs i m → (done : Bool) → done ≡ not (eqb (m′ .line) (m .line))
+        → cond done (readyMove t i (m′ .registers) (x .readiness)) (x .readiness)
+        ≡ readyStepOf (formBy b) rules (storedIn b script wide) inputs m (x .readiness)
     unfolding readyStepOf
-    ready-step m′ d y h =
-        let moved : m′ ≡ move inputs i m = rw goes at d in
-        rw (can, here, goes) (h ∙ ap (λ (n : Machine). readyMove (tableWithin (formBy b) rules) i (n .registers) (x .readiness)) moved)
+    ready-step t within m′ d done e =
+        rw (can, here) (done-is t i m′ d done e ∙ ap (λ (u : Table). readyActing u inputs i m (x .readiness)) within)
 
     pub state-step : (m′ : Machine) → m′ ≡ acting inputs i m → (t : Table) → t ≡ tableWithin (formBy b) rules → (j : Instruction) → j ≡ i
-        → (y : Readiness) → y ≡ readyMove t j (m′ .registers) (x .readiness) → record { machine = m′; readiness = y } ≡ next
-    state-step m′ d t within j same y h =
+        → (done : Bool) → done ≡ not (eqb (m′ .line) (m .line)) → (y : Readiness)
+        → y ≡ cond done (readyMove t j (m′ .registers) (x .readiness)) (x .readiness) → record { machine = m′; readiness = y } ≡ next
+    state-step m′ d t within j same done e y h =
         let u = step-is b rules script wide inputs m can m′ d in
-        let v = ready-step m′ d y (h ∙ ap₂ (λ (u : Table) (k : Instruction). readyMove u k (m′ .registers) (x .readiness)) within same) in
+        let v = h ∙ ap (λ (k : Instruction). cond done (readyMove t k (m′ .registers) (x .readiness)) (x .readiness)) same ∙ ready-step t within m′ d done e in
         λ k. record { machine = u k; readiness = v k }
 
 module _ (form : Form) (rule : List ℕ) where

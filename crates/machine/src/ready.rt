@@ -8,6 +8,7 @@ use rule::stored::widen_rule;
 use script::instruction::Instruction;
 use sets::has;
 ghost use mathlib.Core.Path.{_≡_};
+ghost use mathlib.Core.Bool.{cond};
 ghost use mathlib.Core.List.{List};
 ghost use Prim.Native.Nat.{ℕ, _≤_};
 ghost use lib.ListN.{length};
@@ -100,10 +101,13 @@ fn is_write(x: Instruction) -> bool
     ((1 <= opcode) & (opcode <= 4)) | (opcode == 14)
 }
 
-// From what instruction x, which nothing stops, has it worked out anew.
-fn renewal_of(x: Instruction, before: Readiness) -> Renewal
-    ensures { λ r. ⌜ ((t : Table) (registers : List ℕ) → renewed r t registers (readinessOf before) ≡ readyMove t (instructionIn x) registers (readinessOf before)) ⌝ }
+// From what instruction x, if it was done, has it worked out anew.
+fn renewal_of(x: Instruction, done: bool, before: Readiness) -> Renewal
+    ensures { λ r. ⌜ ((t : Table) (registers : List ℕ) → renewed r t registers (readinessOf before) ≡ cond done (readyMove t (instructionIn x) registers (readinessOf before)) (readinessOf before)) ⌝ }
 {
+    if !done {
+        return Renewal::Unchanged;
+    }
     let opcode = x.opcode;
     if opcode == 8 {
         return Renewal::From(before.next);
@@ -114,19 +118,20 @@ fn renewal_of(x: Instruction, before: Readiness) -> Renewal
     Renewal::Unchanged
 }
 
-// After instruction x, which nothing stopped: the registers are those afterwards.
+// After instruction x, if it was done: the registers are those afterwards.
 pub(crate) fn follow(
     rule: &[u32],
     rule_wide: &[u64],
     is_wide: bool,
     x: Instruction,
+    done: bool,
     registers: [u16; 16],
     before: Readiness,
 ) -> Readiness
     requires { ⌜ length (storedIn «is_wide» (now rule) (now «rule_wide»)) ≤ formBy «is_wide» .width ⌝ }
-    ensures { λ r. ⌜ readinessOf r ≡ readyMove (tableBy «is_wide» (now (rule .entry)) (now («rule_wide» .entry))) (instructionIn x) registers (readinessOf before) ⌝ }
+    ensures { λ r. ⌜ readinessOf r ≡ cond done (readyMove (tableBy «is_wide» (now (rule .entry)) (now («rule_wide» .entry))) (instructionIn x) registers (readinessOf before)) (readinessOf before) ⌝ }
 {
-    let renewal = renewal_of(x, before);
+    let renewal = renewal_of(x, done, before);
     match renewal {
         Renewal::Unchanged => before,
         Renewal::From(priors) => {
