@@ -17,7 +17,7 @@ ghost use Rattle.spec.specs.Ready.{workedOut, firstReadiness, readyMove};
 ghost use Rattle.sets.specs.Sets.{capacity, setOf};
 ghost use Rattle.rule.specs.Answers.{foundOf};
 ghost use Rattle.rule.specs.Nodes.{formBy, storedIn, tableIn, tableBy};
-ghost use Rattle.script.specs.Lines.{fieldsIn, instructionIn};
+ghost use Rattle.script.specs.Lines.{instructionIn};
 ghost use Rattle.machine.specs.Machines.{readinessOf, writesRegister};
 ghost use Rattle.machine.specs.Renewals.{noneFound, renewed};
 

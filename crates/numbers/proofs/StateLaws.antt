@@ -3,7 +3,7 @@
 --     words-of, ready-words, put-words     a machine's words, and those of its readiness
 --     Noted, step-short, step-large, step-made      what a step hands back, made or not
 -- Assumes nothing.
-use mathlib.Core.Path.{_≡_, refl, sym, ap, ap₂, fun-ext, _∙_}
+use mathlib.Core.Path.{_≡_, sym, ap, ap₂, fun-ext, _∙_}
 use mathlib.Core.List.{List, [], _∷_, _++_, append-assoc}
 use mathlib.Core.Logic.{inl, inr}
 use mathlib.Core.Bool.{true, false, cond}
@@ -12,7 +12,7 @@ use native.Mathlib.Omega.{arith}
 use lib.ListN.{length, take, drop}
 use lib.Seq.{length-take-le, drop-append-seam}
 use Rattle.spec.specs.Rule.{Form}
-use Rattle.spec.specs.Check.{nodesIn, factWord}
+use Rattle.spec.specs.Check.{factWord}
 use Rattle.spec.specs.Ready.{MachineState}
 use Rattle.spec.proofs.BoolLaws.{le-or-lt}
 use Rattle.spec.proofs.StoredLaws.{word-small, nodes-stored, no-nodes}

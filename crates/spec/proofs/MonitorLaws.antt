@@ -8,7 +8,7 @@
 use mathlib.Core.Path.{_≡_, refl, sym, ap, ap₂, _∙_}
 use mathlib.Core.Logic.{inl, inr}
 use mathlib.Core.Bool.{Bool, true, false, not, _&&_, _||_, and-false, or-false}
-use Prim.Native.Nat.{ℕ, zero, suc, _≤_, _<_}
+use Prim.Native.Nat.{ℕ, zero, suc, _<_}
 use native.Mathlib.Nat.{le-refl}
 use native.Mathlib.Omega.{arith}
 use lib.ListN.{length, set}
@@ -18,7 +18,7 @@ use borrow.Author.Tests.{lt-ltb, le-ltb, eq-eqb, ne-eqb, eqb-false}
 use Rattle.spec.specs.Logic.{registerCount, State, Trace, Test, equal, below, equalRegisters, registerOf, passes}
 use Rattle.spec.specs.Questions.{all}
 use Rattle.spec.specs.Rule.{Node, falseNode, testNode, impliesNode, sinceNode, weakPreviousNode, Table, nodeAt, isPast, operands, withPresent, valueNow, priorFrom, prior, nextFrom, nextOf}
-use Rattle.spec.specs.Monitor.{NodeSets, sinceStep, nodeValue, nodeNext, joining, joined, withNode, momentBelow, momentOf, reads, nodeReads, readBelow, ruleReads}
+use Rattle.spec.specs.Monitor.{sinceStep, nodeValue, nodeNext, joining, joined, withNode, momentBelow, momentOf, reads, nodeReads, readBelow, ruleReads}
 use Rattle.spec.proofs.BoolLaws.{clash, decided, le-or-lt}
 use Rattle.spec.proofs.RuleLaws.{InOrder, both-lower, one-lower, past-in}
 use Rattle.spec.proofs.ValueLaws.{valueFrom, value-is, prior-after}

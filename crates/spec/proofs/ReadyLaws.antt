@@ -5,25 +5,24 @@
 --     stop-same                   what stops a run changes nothing
 -- Not here: a block that does not present (`ReadyBlockLaws`). Assumes nothing.
 use mathlib.Core.Path.{_≡_, refl, sym, ap, _∙_}
-use mathlib.Core.Logic.{_↔_, inl, inr}
+use mathlib.Core.Logic.{_↔_}
 use mathlib.Core.Bool.{Bool, true, false, cond}
 use mathlib.Core.Option.{Option, none, some}
-use mathlib.Core.List.{List, []}
-use Prim.Native.Nat.{ℕ, zero, suc, _<_}
+use mathlib.Core.List.{List}
+use Prim.Native.Nat.{ℕ, zero, suc}
 use native.Mathlib.Omega.{arith}
 use lib.ListN.{length, length-set}
 use lib.Seq.{take-all}
-use Rattle.spec.specs.Logic.{registerCount, State, Satisfies}
+use Rattle.spec.specs.Logic.{registerCount, Satisfies}
 use Rattle.spec.specs.Questions.{passed}
 use Rattle.spec.specs.Rule.{Form, Table, tableOf, lastNode, ruleOf, checkRule, withPresent, valueNow, prior}
-use Rattle.spec.specs.Monitor.{NodeSets, momentOf, lastTrue, ruleReads}
+use Rattle.spec.specs.Monitor.{NodeSets, lastTrue, ruleReads}
 use Rattle.spec.specs.Judging.{states}
 use Rattle.spec.specs.Script.{Source, Instruction, halt, write, branch, goto, present, setWork, keep, instructionAt}
 use Rattle.spec.specs.Check.{codeOf, linesOf}
-use Rattle.spec.specs.Machine.{Machine, trace, zeros, fresh, withWrite, move, Stop, stops, step, tableWithin, freshOf, canRun, stepOf, unlessStopped, acting}
+use Rattle.spec.specs.Machine.{Machine, trace, fresh, withWrite, move, Stop, stops, step, tableWithin, freshOf, canRun, stepOf, unlessStopped, acting}
 use Rattle.spec.specs.Ready.{Readiness, MachineState, wouldKeep, workedOut, firstReadiness, readyMove, readyUnless, readyActing, freshStateOf, readyStepOf, stateStepOf, stateAfter}
 use Rattle.spec.specs.Promise.{after}
-use Rattle.spec.proofs.BoolLaws.{decided}
 use Rattle.spec.proofs.LogicLaws.{agrees}
 use Rattle.spec.proofs.RuleLaws.{InOrder, rule-out, length-table}
 use Rattle.spec.proofs.ValueLaws.{prior-moved}

@@ -1,7 +1,6 @@
 -- `guard::guard_fresh` meets its contract. Assumes nothing.
 use mathlib.Core.Path.{ap, _∙_}
-use mathlib.Core.List.{List, [], _++_}
-use Prim.Native.Nat.{ℕ}
+use mathlib.Core.List.{[], _++_}
 use lib.ListN.{drop}
 use Rattle.spec.specs.Rule.{form32}
 use Rattle.spec.specs.Ready.{MachineState, freshStateOf}

@@ -1,6 +1,6 @@
 -- `machine::step_in` meets its contract: nothing where the line cannot be run, and else what its instruction does to the machine and its
 -- readiness (`StepLaws`, `ReadyLaws`). Assumes nothing.
-use mathlib.Core.Path.{_≡_, refl, sym, ap, _∙_}
+use mathlib.Core.Path.{refl, sym, ap, _∙_}
 use native.Mathlib.Omega.{arith}
 use borrow.Author.Tests.{not-true, not-false}
 use Rattle.spec.specs.Machine.{acting}

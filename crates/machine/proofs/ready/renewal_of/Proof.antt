@@ -1,5 +1,5 @@
 -- `machine::ready::renewal_of` meets its contract, by opcode (`ReadyLaws`). Assumes nothing.
-use mathlib.Core.Path.{_≡_, sym, ap, ap₂, _∙_}
+use mathlib.Core.Path.{sym, ap, ap₂, _∙_}
 use mathlib.Core.Bool.{Bool, cond, _&&_}
 use borrow.Author.Tests.{not-true, not-false}
 use Rattle.spec.specs.Ready.{readyMove}

@@ -1,5 +1,5 @@
 -- `machine::ready::work_out_in` meets its contract: a rule of the old form has the same nodes when moved to the second. Assumes nothing.
-use mathlib.Core.Path.{_≡_, refl, ap, _∙_}
+use mathlib.Core.Path.{refl, ap, _∙_}
 use native.Mathlib.Omega.{arith}
 use Rattle.spec.specs.Ready.{workedOut}
 use Rattle.spec.specs.Rule.{Table}

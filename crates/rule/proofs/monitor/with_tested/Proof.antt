@@ -1,7 +1,5 @@
 -- `rule::monitor::with_tested` meets its contract, by kind. Assumes nothing.
 use mathlib.Core.Path.{_≡_, ap, sym, _∙_}
-use mathlib.Core.Bool.{Bool, false, _||_}
-use Prim.Native.Nat.{ℕ}
 use lib.Dec.{eqb}
 use Rattle.spec.specs.Monitor.{nodeReads}
 use Rattle.sets.specs.Sets.{Nodes, setOf}
