@@ -244,7 +244,7 @@ uint32_t guard_run(const uint32_t *rule, size_t rule_length, const uint32_t *scr
  * with the present registers added, whether the history has space for them or not. It is right at the start and after every step for a rule
  * that passes questions 1 to 4 and a state that guard_fresh wrote for it and that only guard_step, with the same rule and history, has
  * changed since; for any script, accepted or not, woven, by hand or wrong. After a woven block that did not present, and after a present
- * that found the history full, it is what it was before. The three numbers after it are what it is worked out from. */
+ * that found the history full, it is what it was before. The three numbers after it are for guard_step, which works it out with them. */
 enum {
     GUARD_STATE_LINE = 0,
     GUARD_STATE_PRESENTATIONS = 1,
