@@ -1,44 +1,18 @@
 -- Facts held in seven words (`specs/FactSets.antt`).
---     noted-is                   the facts of a stored line, by the words that hold them
 --     learned-is                 two facts of a node, each where it is known
 --     among-words, among-nodes   whether facts are among others: word by word, and of the rule's nodes only
 -- Assumes nothing.
 use mathlib.Core.Path.{_≡_, refl, sym, ap, _∙_, fun-ext}
 use mathlib.Core.Bool.{Bool, true, false, _&&_, _||_, and-true, and-false, and-assoc, or-false}
-use mathlib.Core.List.{List}
-use Prim.Native.Nat.{ℕ, _+_, _*_, _/_, _≤_, _<_}
+use Prim.Native.Nat.{ℕ, _≤_, _<_}
 use native.Mathlib.Omega.{arith}
-use lib.ListN.{length, getD, take, drop}
-use lib.Seq.{getD-drop, getD-take}
 use lib.Dec.{eqb}
 use borrow.Author.Tests.{eq-eqb}
-use Rattle.spec.specs.Rule.{Form}
 use Rattle.spec.specs.Facts.{Fact, valueIs, priorIs, keptIsPrior, workIsNext, workIsPrior, wordNumber, Facts, _∪_, only, one, provided, amongBelow}
-use Rattle.spec.specs.Check.{lineAt, nodesIn, factsRead, lineRead, linesOf}
 use Rattle.spec.proofs.BoolLaws.{bool-ext}
-use Rattle.spec.proofs.FactLaws.{by-fact, among-in, among-out}
-use Rattle.spec.proofs.StoredLaws.{line-of}
+use Rattle.spec.proofs.FactLaws.{among-in, among-out}
 use Rattle.sets.specs.Sets.{Nodes, capacity, adding, within}
 use Rattle.sets.proofs.SetLaws.{adding-is}
-
--- ---- the facts of a stored line
-
-word-at : (ws : List ℕ) (l i : ℕ) → i < 7 → getD (drop 1 (take 8 (drop (8 * l) ws))) i 0 ≡ getD ws (8 * l + 1 + i) 0
-word-at ws l i h =
-    let z : 8 * l + (1 + i) ≡ 8 * l + 1 + i = omega arith in
-    getD-drop 1 (take 8 (drop (8 * l) ws)) i 0 ∙ getD-take 8 (drop (8 * l) ws) (1 + i) 0 (omega arith)
-    ∙ getD-drop (8 * l) ws (1 + i) 0 ∙ ap (λ j. getD ws j 0) z
-
-number-small : (f : Fact) → wordNumber f < 7
-unfolding wordNumber
-number-small = by-fact (λ f. wordNumber f < 7) (omega arith) (omega arith) (omega arith) (omega arith) (omega arith) (omega arith) (omega arith)
-
-pub noted-is : (form : Form) (ws : List ℕ) (l : ℕ) → l < length ws / 8 → (f : Fact)
-    → lineAt (linesOf form ws) l .annotation f ≡ nodesIn (form .width) (getD ws (8 * l + 1 + wordNumber f) 0)
-unfolding lineRead factsRead
-noted-is form ws l h f =
-    ap (λ x. x .annotation f) (line-of form ws l h)
-    ∙ ap (nodesIn (form .width)) (word-at ws l (wordNumber f) (number-small f))
 
 -- ---- what is known of a node
 

@@ -1,6 +1,6 @@
 -- The laws of the kept notes (`specs/Rows.antt`).
 --     or-none, or-some                    two truth values
---     number-small, word-of               the words of a line
+--     word-of                             the words of a line
 --     Meeting, meeting-start, meeting-next    seven words met, one after another
 --     cut-same, cut-changed               then line m is cut
 --     loaded                              a line read
@@ -22,6 +22,7 @@ use lib.Bits.{bitAnd, and-le-l}
 use borrow.Author.Tests.{eqb-true, eqb-false}
 use Rattle.spec.specs.Facts.{Fact, valueIs, priorIs, keptIsPrior, workIsNext, workIsPrior, wordNumber, Facts, _⊑_}
 use Rattle.spec.proofs.BoolLaws.{clash, and-both, both-and}
+use Rattle.spec.proofs.FactLaws.{number-small}
 use Rattle.sets.specs.Sets.{setOf}
 use Rattle.facts.specs.FactSets.{wordOf}
 use Rattle.facts.specs.declared.Facts.{Facts as FactWords}
@@ -52,16 +53,6 @@ or-none false b e = (refl, e)
 pub or-some : (a b : Bool) → (a || b) ≡ true → (a ≡ true) ⊎ (b ≡ true)
 or-some true b e = inl refl
 or-some false b e = inr e
-
-pub number-small : (f : Fact) → wordNumber f < 7
-unfolding wordNumber
-number-small (valueIs true) = omega arith
-number-small (valueIs false) = omega arith
-number-small (priorIs true) = omega arith
-number-small (priorIs false) = omega arith
-number-small keptIsPrior = omega arith
-number-small workIsNext = omega arith
-number-small workIsPrior = omega arith
 
 -- the words of a line's facts, in order
 abbrev pub wordsIn : FactWords → List ℕ

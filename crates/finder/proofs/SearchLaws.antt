@@ -27,6 +27,7 @@ use Rattle.spec.specs.Facts.{wordNumber, Facts, _⊑_, belongs, close, pass, fi
 use Rattle.spec.specs.Check.{passedOn}
 use Rattle.largest.specs.Notes.{Notes, followerOf, passedAt, Obeys, startNotes}
 use Rattle.spec.proofs.BoolLaws.{clash, and-both, not-either, bool-ext, le-or-lt}
+use Rattle.spec.proofs.FactLaws.{number-small}
 use Rattle.spec.proofs.ClosingLaws.{extends, close-mono, close-into}
 use Rattle.spec.proofs.RuleLaws.{InOrder, length-table}
 use Rattle.largest.proofs.ObeyLaws.{code-at, length-bare}
@@ -40,7 +41,7 @@ use Rattle.finder.specs.Rows.{notesAt, flagOf, HasLine, Room, Asked, tot
 use Rattle.facts.specs.FactSets.{factsOf}
 use Rattle.rule.specs.Nodes.{tableIn, RulePasses, formIn}
 use Rattle.finder.proofs.FlagLaws.{same-or-other}
-use Rattle.finder.proofs.RowLaws.{or-none, or-some, number-small, wordsIn, word-of, Spread}
+use Rattle.finder.proofs.RowLaws.{or-none, or-some, wordsIn, word-of, Spread}
 
 -- ---- what questions 1 to 7 say of a line
 

@@ -34,7 +34,7 @@ use Rattle.largest.proofs.CountLaws.{count-words}
 use Rattle.largest.proofs.LargestLaws.{largest-closed, unreached-all, welcome}
 use Rattle.largest.proofs.LargestFound.{LargestLines, largest-found}
 use Rattle.largest.proofs.LargestLoop.{lines-same}
-use Rattle.largest.proofs.ObeyLaws.{nothing-past, slim-lines, length-codes, same-line, obeys-from, eight-to, nine-to, eleven-to, fit-small, fit-again, code-at, length-bare}
+use Rattle.largest.proofs.ObeyLaws.{nothing-past, slim-lines, length-codes, same-line, obeys-from, eight-to, nine-to, eleven-to, accepted-out, accepted-in, fit-small, fit-again, code-at, length-bare}
 
 -- ---- refusals
 
@@ -128,25 +128,16 @@ module _ (form : Form) (g : GoodForm form) (rule ws : List ℕ) where
       (obeys-from t ls form ordered (slim-lines form lines) (ask-out 8 _ _ q₈) (once-out 9 _ q₉) (ask-out 11 _ _ q₁₁))
 
   -- an accepted one obeys them, and question 10
-  accepted-obeys : (lines : List ℕ) → Accepted form rule lines
-      → (checkObeying form rule lines ≡ passed tt) × (question10 t (linesOf form lines) ≡ passed tt)
-  unfolding checkScript checkFacts checkObeying
-  accepted-obeys lines e =
-      let (rule-ok, e₁) = both-passed _ _ tt e in
-      let (code-ok, e₂) = both-passed _ _ tt e₁ in
-      let (q₈, e₃) = both-passed _ _ tt e₂ in
-      let (q₉, e₄) = both-passed _ _ tt e₃ in
-      let (q₁₀, q₁₁) = both-passed _ _ tt e₄ in
-      (then-passed _ _ q₈ ∙ then-passed _ _ q₉ ∙ q₁₁, q₁₀)
+  accepted-says : (lines : List ℕ) → Annotates form ws lines → Accepted form rule lines → Obeys t bare (notesOf (linesOf form lines))
+  accepted-says lines a e = subst (λ c. Obeys t c (notesOf (linesOf form lines))) (a .same) (accepted-out form rule lines e .obeys)
 
   accepted-known : (lines : List ℕ) → Annotates form ws lines → Accepted form rule lines → (l : ℕ) → l < length bare
       → presentKnown t (record { instruction = instructionAt bare l; annotation = notesOf (linesOf form lines) l }) ≡ true
-  unfolding question10
   accepted-known lines a e l h =
       let ls = linesOf form lines in
       subst (λ c. presentKnown t (record { instruction = instructionAt c l; annotation = notesOf ls l }) ≡ true) (a .same)
       (subst (λ i. presentKnown t (record { instruction = i; annotation = notesOf ls l }) ≡ true) (sym (same-line ls l))
-      (ask-out 10 _ _ (accepted-obeys lines e .1) l (omega (arith, length-codes ls, ap length (a .same)))))
+      (accepted-out form rule lines e .known l (omega (arith, length-codes ls, ap length (a .same)))))
 
   -- the lines found, once questions 1 to 7 have a yes
   module _ (r : Ready form rule ws) where
@@ -240,39 +231,42 @@ module _ (form : Form) (g : GoodForm form) (rule ws : List ℕ) where
         ∙ then-passed _ _ (once-in 9 _ (nine-to t found obeys-found))
         ∙ ask-in 11 (length found) (λ l. factsFollow t found l) (eleven-to t found obeys-found))
 
-    found-holds : (lines : List ℕ) → Annotates form ws lines → checkObeying form rule lines ≡ passed tt → Within form lines (foundWords form rule ws)
-    found-holds lines a e l =
+    found-holds : (lines : List ℕ) → Annotates form ws lines → Obeys t bare (notesOf (linesOf form lines)) → Within form lines (foundWords form rule ws)
+    found-holds lines a o l =
         let count : length (linesOf form lines) ≡ length ws = sym (length-codes (linesOf form lines)) ∙ ap length (a .same) ∙ length-bare ws in
         rw found-read (elim (le-or-lt (length ws) l) [
           | inl h ↦ nothing-past (linesOf form lines) l (omega arith) _
-          | inr h ↦ found-largest .largest .holds-all (notesOf (linesOf form lines)) (obeying-says (r .ordered) lines a e) l (omega (arith, length-bare ws))
+          | inr h ↦ found-largest .largest .holds-all (notesOf (linesOf form lines)) o l (omega (arith, length-bare ws))
         ])
 
     pub largest-obeying : Largest form (checkObeying form rule) ws (foundWords form rule ws)
-    largest-obeying = record { annotates = found-annotates; passes = found-obeying; holds = found-holds }
+    largest-obeying = record {
+      annotates = found-annotates;
+      passes = found-obeying;
+      holds = λ others a e. found-holds others a (obeying-says (r .ordered) others a e);
+    }
 
     -- question 10 of the lines found is question 19
     found-accepted : ((l : ℕ) → l < length ws → presentKnown t (lineAt found l) ≡ true) → Accepted form rule (foundWords form rule ws)
-    unfolding checkScript checkFacts checkObeying question10
-    found-accepted known =
-        let (q₈, e) = both-passed _ _ tt found-obeying in
-        let (q₉, q₁₁) = both-passed _ _ tt e in
-        then-passed _ _ (r .rule-passed) ∙ then-passed _ _ code-passed ∙ then-passed _ _ q₈ ∙ then-passed _ _ q₉
-        ∙ then-passed _ _ (rw found-read (ask-in 10 (length found) (λ l. presentKnown t (lineAt found l)) (λ l h. known l (omega (arith, length-found)))))
-        ∙ q₁₁
+    found-accepted known = accepted-in form rule (foundWords form rule ws) (record {
+      rule-passed = r .rule-passed;
+      code-passed = code-passed;
+      obeys = rw found-read obeys-found;
+      known = rw found-read (λ l h. known l (omega (arith, length-found)));
+    })
 
     -- if any facts are accepted, the largest are
     found-known : (lines : List ℕ) → Annotates form ws lines → Accepted form rule lines → (l : ℕ) → l < length ws → presentKnown t (lineAt found l) ≡ true
     found-known lines a e l h =
         subst (λ i. presentKnown t (record { instruction = i; annotation = notesOf found l }) ≡ true) (code-at ws l ∙ sym (instruction-found l))
         (welcome t (r .ordered) bare (notesOf found) (notesOf (linesOf form lines)) (found-largest .largest)
-        (obeying-says (r .ordered) lines a (accepted-obeys lines e .0)) (accepted-known lines a e) l (omega (arith, length-bare ws)))
+        (accepted-says lines a e) (accepted-known lines a e) l (omega (arith, length-bare ws)))
 
     largest-accepted : Accepted form rule (foundWords form rule ws) → Largest form (checkScript form rule) ws (foundWords form rule ws)
     largest-accepted e = record {
       annotates = found-annotates;
       passes = e;
-      holds = λ others a d. found-holds others a (accepted-obeys others d .0);
+      holds = λ others a e. found-holds others a (accepted-says others a e);
     }
 
     -- a line that nothing leads to

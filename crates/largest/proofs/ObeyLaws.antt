@@ -5,6 +5,7 @@
 --     length-codes, same-line             the instructions of lines
 --     obeys-from                          questions 8, 9 and 11 to `Obeys`
 --     eight-to, nine-to, eleven-to        and the other way
+--     AcceptedNotes, accepted-out, accepted-in    acceptance, by `Obeys`
 --     fit-small, fit-again                question 6 of a word
 --     code-at, length-bare                the instructions of stored words
 -- Assumes nothing.
@@ -18,13 +19,16 @@ use native.Mathlib.Omega.{arith}
 use lib.ListN.{length, getD, drop, length-map, List·getD-map}
 use lib.Dec.{eqb, ltb}
 use borrow.Author.Tests.{ltb-true, eqb-true}
-use Rattle.spec.specs.Rule.{Form, Table}
-use Rattle.spec.specs.Script.{Instruction, Code, instructionAt, targetOf, goesOn, fieldsOf, wordOf, instructionOf, instructionRead, fieldsFor, wordFor, bareCode, storedFit}
+use Rattle.spec.specs.Questions.{passed}
+use Rattle.spec.specs.Rule.{Form, Table, tableOf, checkRule}
+use Rattle.spec.specs.Script.{Instruction, Code, instructionAt, targetOf, goesOn, fieldsOf, wordOf, instructionOf, instructionRead, fieldsFor, wordFor, bareCode, annotatedOpcode, storedFit, checkCode}
 use Rattle.spec.specs.Facts.{Fact, belongs, Facts, _⊑_, among, firstFacts}
-use Rattle.spec.specs.Check.{Line, Lines, lineAt, codeOf, nodesIn, factsRead, lineRead, linesRead, linesOf, factsBelong, passedOn, targetFollows, factsFollow}
+use Rattle.spec.specs.Check.{Line, Lines, lineAt, codeOf, nodesIn, factsRead, lineRead, linesRead, linesOf, annotatedStored, factsBelong, question8, question9, presentKnown, question10, passedOn, targetFollows, factsFollow, question11, checkFacts, checkScript}
+use Rattle.spec.specs.Promise.{Accepted}
 use Rattle.largest.specs.Notes.{notesOf, followerOf, Obeys}
 use Rattle.spec.proofs.BoolLaws.{clash, and-both, both-and, either-not, le-or-lt}
-use Rattle.spec.proofs.RuleLaws.{InOrder}
+use Rattle.spec.proofs.QuestionLaws.{then-passed, both-passed, once-in, once-out, ask-in, ask-out}
+use Rattle.spec.proofs.RuleLaws.{InOrder, rule-out}
 use Rattle.spec.proofs.FactLaws.{among-out, belongs-in}
 use Rattle.spec.proofs.StoredLaws.{Small, word-fields}
 use Rattle.spec.proofs.PlaceLaws.{past-end, instruction-at}
@@ -128,6 +132,43 @@ module _ (t : Table) (ls : Lines) where
         target : (w : Option ℕ) → targetOf (lineAt ls l .instruction) ≡ w → targetFollows t ls (lineAt ls l) w ≡ true
         target none e = refl
         target (some m) e = follower-to l m true h e
+
+-- ---- acceptance
+
+-- questions 1 to 11, with 8, 9 and 11 by `Obeys`
+pub record AcceptedNotes (form : Form) (rule ws : List ℕ) : Type 0 where
+  pub rule-passed : checkRule form rule ≡ passed tt
+  pub code-passed : checkCode (tableOf form rule) annotatedOpcode (annotatedStored form ws) ≡ passed tt
+  pub obeys : Obeys (tableOf form rule) (codeOf (linesOf form ws)) (notesOf (linesOf form ws))
+  pub known : (l : ℕ) → l < length (linesOf form ws) → presentKnown (tableOf form rule) (lineAt (linesOf form ws) l) ≡ true
+
+module _ (form : Form) (rule ws : List ℕ) where
+  pub accepted-out : Accepted form rule ws → AcceptedNotes form rule ws
+  unfolding checkScript checkFacts question8 question9 question10 question11
+  accepted-out e =
+      let (rule-ok, e₁) = both-passed _ _ tt e in
+      let (code-ok, e₂) = both-passed _ _ tt e₁ in
+      let (q₈, e₃) = both-passed _ _ tt e₂ in
+      let (q₉, e₄) = both-passed _ _ tt e₃ in
+      let (q₁₀, q₁₁) = both-passed _ _ tt e₄ in
+      record {
+        rule-passed = rule-ok;
+        code-passed = code-ok;
+        obeys = obeys-from (tableOf form rule) (linesOf form ws) form (rule-out form rule rule-ok .ordered) (slim-lines form ws)
+            (ask-out 8 _ _ q₈) (once-out 9 _ q₉) (ask-out 11 _ _ q₁₁);
+        known = ask-out 10 _ _ q₁₀;
+      }
+
+  pub accepted-in : AcceptedNotes form rule ws → Accepted form rule ws
+  unfolding checkScript checkFacts question8 question9 question10 question11
+  accepted-in p =
+      let t = tableOf form rule in
+      let ls = linesOf form ws in
+      then-passed _ _ (p .rule-passed) ∙ then-passed _ _ (p .code-passed)
+      ∙ then-passed _ _ (ask-in 8 (length ls) (λ l. factsBelong form t (lineAt ls l)) (eight-to t ls (p .obeys) form))
+      ∙ then-passed _ _ (once-in 9 _ (nine-to t ls (p .obeys)))
+      ∙ then-passed _ _ (ask-in 10 (length ls) (λ l. presentKnown t (lineAt ls l)) (p .known))
+      ∙ ask-in 11 (length ls) (λ l. factsFollow t ls l) (eleven-to t ls (p .obeys))
 
 -- ---- a word that question 6 lets pass is the word of its instruction
 

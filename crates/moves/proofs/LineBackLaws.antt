@@ -9,8 +9,8 @@ use mathlib.Core.List.{List, [], _∷_}
 use Prim.Native.Nat.{ℕ, zero, suc, _+_, _-_, _*_, _/_, _%_, _^_, _≤_, _<_}
 use native.Mathlib.Nat.{mod-lt, zero-lt-suc}
 use native.Mathlib.Omega.{arith}
-use lib.ListN.{length, getD, take, drop, length-map, List·getD-map}
-use lib.Seq.{getD-drop, getD-take, ext-getD}
+use lib.ListN.{length, getD, length-map, List·getD-map}
+use lib.Seq.{ext-getD}
 use lib.Dec.{eqb}
 use lib.Pow.{shl-shr, mod-pow-add}
 use borrow.Author.Tests.{eqb-true, lt-ltb}
@@ -18,13 +18,13 @@ use Rattle.spec.specs.Questions.{passed}
 use Rattle.spec.specs.Rule.{form64, Table, tableOf, checkRule}
 use Rattle.spec.specs.Script.{fieldsOf, instructionRead, annotatedOpcode, storedFit, namesAllowed, lineAllowed, checkCode}
 use Rattle.spec.specs.Facts.{Fact, valueIs, priorIs, keptIsPrior, workIsNext, workIsPrior, wordNumber, belongs}
-use Rattle.spec.specs.Check.{lineAt, nodesIn, factsRead, lineRead, linesOf, annotatedStored, factsBelong, question8}
+use Rattle.spec.specs.Check.{lineAt, nodesIn, linesOf, annotatedStored, factsBelong, question8}
 use Rattle.moves.specs.Moves.{widenWord, narrowWord, widenScript, narrowScript, checkMove}
 use Rattle.spec.proofs.BoolLaws.{and-both, le-or-lt}
 use Rattle.spec.proofs.QuestionLaws.{both-passed, ask-out}
 use Rattle.spec.proofs.RuleLaws.{length-table, rule-out}
-use Rattle.spec.proofs.FactLaws.{by-fact, among-out, belongs-in}
-use Rattle.spec.proofs.StoredLaws.{length-read, line-of}
+use Rattle.spec.proofs.FactLaws.{among-out, belongs-in}
+use Rattle.spec.proofs.StoredLaws.{length-read, facts-of}
 use Rattle.spec.proofs.CodeLaws.{code-out}
 use Rattle.largest.proofs.ObeyLaws.{slim-lines}
 use Rattle.moves.proofs.LineMoveLaws.{word-widen}
@@ -69,10 +69,6 @@ fact-in (suc (suc (suc (suc (suc zero))))) h = (workIsNext, refl)
 fact-in (suc (suc (suc (suc (suc (suc zero)))))) h = (workIsPrior, refl)
 fact-in (suc (suc (suc (suc (suc (suc (suc j))))))) h = absurd (omega arith)
 
-word-number : (f : Fact) → wordNumber f < 7
-unfolding wordNumber
-word-number = by-fact (λ f. wordNumber f < 7) (omega arith) (omega arith) (omega arith) (omega arith) (omega arith) (omega arith) (omega arith)
-
 module _ (rule ws : List ℕ) (passes : checkRule form64 rule ≡ passed tt) (few : length rule ≤ 32) (asked : checkMove form64 rule ws ≡ passed tt) where
   abbrev t : Table
   t = tableOf form64 rule
@@ -96,24 +92,21 @@ module _ (rule ws : List ℕ) (passes : checkRule form64 rule ≡ passed tt) (fe
       eqb-true (s .unused l) 0 (and-both (annotatedOpcode (f .opcode) && storedFit f) (eqb (s .unused l) 0) e .1)
 
   -- question 8: facts of the rule's nodes only
-  fact-zero : (l : ℕ) (f : Fact) → l < length ws / 8 → getD ws (8 * l + suc (wordNumber f)) 0 % 2 ^ 32 ≡ 0
-  unfolding question8 factsBelong lineRead factsRead form64
-  fact-zero l f h = no-later 32 32 (getD ws (8 * l + suc (wordNumber f)) 0) (λ k e.
+  fact-zero : (l : ℕ) (f : Fact) → l < length ws / 8 → getD ws (8 * l + 1 + wordNumber f) 0 % 2 ^ 32 ≡ 0
+  unfolding question8 factsBelong form64
+  fact-zero l f h = no-later 32 32 (getD ws (8 * l + 1 + wordNumber f) 0) (λ k e.
       let ls = linesOf form64 ws in
-      let n = wordNumber f in
-      let small : n < 7 = word-number f in
-      let z : 8 * l + (1 + n) ≡ 8 * l + suc n = omega arith in
-      let line = drop (8 * l) ws in
-      let word : getD (drop 1 (take 8 line)) n 0 ≡ getD ws (8 * l + suc n) 0 =
-      getD-drop 1 (take 8 line) n 0 ∙ getD-take 8 line (1 + n) 0 (omega arith) ∙ getD-drop (8 * l) ws (1 + n) 0 ∙ ap (λ i. getD ws i 0) z in
-      let noted : lineAt ls l .annotation f k ≡ true = ap (λ x. x .annotation f k) (line-of form64 ws l h) ∙ ap (λ w. nodesIn 64 w k) word ∙ e in
+      let noted : lineAt ls l .annotation f k ≡ true = ap (λ s. s k) (facts-of form64 ws l h f) ∙ e in
       let belong = ask-out 8 (length ls) (λ j. factsBelong form64 t (lineAt ls j)) facts-asked l (omega (arith, length-read form64 ws)) in
       let there = among-out 64 (lineAt ls l .annotation) (belongs t) belong f k (slim-lines form64 ws l f k noted) noted in
       omega (arith, belongs-in t (rule-out form64 rule passes .ordered) f k there, length-table form64 rule))
 
   word-zero : (l j : ℕ) → l < length ws / 8 → j < 8 → getD ws (8 * l + j) 0 % 2 ^ 32 ≡ 0
   word-zero l zero h b = let e : 8 * l + 0 ≡ 8 * l = omega arith in rw e (first-zero l h)
-  word-zero l (suc j) h b = let (f, e) = fact-in j (omega arith) in subst (λ i. getD ws (8 * l + suc i) 0 % 2 ^ 32 ≡ 0) e (fact-zero l f h)
+  word-zero l (suc j) h b =
+      let (f, e) = fact-in j (omega arith) in
+      let z : 8 * l + 1 + wordNumber f ≡ 8 * l + suc j = omega arith in
+      subst (λ i. getD ws i 0 % 2 ^ 32 ≡ 0) z (fact-zero l f h)
 
   each-zero : (i : ℕ) → i < length ws → getD ws i 0 % 2 ^ 32 ≡ 0
   each-zero i h =
