@@ -2,8 +2,9 @@
 // A request is words of 32 bits, high byte first: kind, node count, nodes, word count, words. Kind 1 asks about the rule and a history,
 // a number a word; kind 2 about the rule and a script; kinds 3 and 4 run the script, kind 6 weaves it first, and they go on as `runs` says;
 // kinds 5 and 10 weave the script and find facts for it, and go on with the length of the lent output; kinds 7 to 9 are `texts`'. Kinds 11 to 17
-// and 20 are kinds 1 to 7 and 10 of the second form, 21 and 23 move a rule and a script to it, 22 and 24 back, as long as kind 5. A 0 in
-// place of a kind is skipped. A count out of the buffers' range ends a block.
+// and 20 are kinds 1 to 7 and 10 of the second form, 21 and 23 move a rule and a script to it, 22 and 24 back, as long as kind 5. Kinds 25
+// and 26 put two scripts together, in the one form and in the other; half of the words are the first's. A 0 in place of a kind is skipped. A
+// count out of the buffers' range ends a block.
 use crate::finding::answer_finding;
 use crate::finding::answer_finding64;
 use crate::loading::load_long;
@@ -11,6 +12,8 @@ use crate::loading::load_numbers;
 use crate::loading::load_words;
 use crate::moving::answer_back;
 use crate::moving::answer_up;
+use crate::pairs::answer_pair;
+use crate::pairs::answer_pair64;
 use crate::printing::print_answer;
 use crate::printing::print_number;
 use crate::printing::print_numbers;
@@ -28,6 +31,7 @@ mod digests;
 mod finding;
 mod loading;
 mod moving;
+mod pairs;
 mod printing;
 mod runs;
 mod texts;
@@ -88,6 +92,8 @@ fn answer(s: &[u8], kind: u32, rule: &[u32], nodes: usize, at: usize, count: usi
         let mut history = [0u16; 16384];
         load_numbers(s, at, count, &mut history);
         answer_history(r, &history, count);
+    } else if kind == 25 {
+        answer_pair(s, r, at, count);
     } else {
         let mut script = [0u32; 16384];
         load_words(s, at, count, &mut script);
@@ -138,6 +144,10 @@ fn answer_short(s: &[u8], kind: u32, r: &[u64], at: usize, count: usize)
 fn answer_long(s: &[u8], kind: u32, r: &[u64], at: usize, count: usize)
     requires { ⌜ (at ≤ 20000) × (count ≤ 16384) ⌝ }
 {
+    if kind == 26 {
+        answer_pair64(s, r, at, count);
+        return;
+    }
     let mut script = [0u64; 16384];
     load_long(s, at, count, &mut script);
     let w = &script[..count];
@@ -155,11 +165,11 @@ fn answer_long(s: &[u8], kind: u32, r: &[u64], at: usize, count: usize)
 
 // Whether nodes are of the second form, and whether the words after them are.
 fn has_long_nodes(kind: u32) -> bool {
-    (11 <= kind) & (kind <= 20) | (kind == 22) | (kind == 24)
+    (11 <= kind) & (kind <= 20) | (kind == 22) | (kind == 24) | (kind == 26)
 }
 
 fn has_long_words(kind: u32) -> bool {
-    (12 <= kind) & (kind <= 14) | (kind == 22) | (kind == 24)
+    (12 <= kind) & (kind <= 14) | (kind == 22) | (kind == 24) | (kind == 26)
 }
 
 // How many words of a request so many words of its rule or script are.
@@ -205,7 +215,7 @@ fn request(s: &[u8], at: usize) -> usize
         answer(s, kind, &rule, nodes, start, count);
     }
     let next = start + size_of(count, has_long_words(kind));
-    if (kind < 3) | (kind == 11) | (kind == 12) {
+    if (kind < 3) | (kind == 11) | (kind == 12) | (25 <= kind) {
         return next;
     }
     if (kind == 5) | (kind == 10) | (kind == 15) | (20 <= kind) {

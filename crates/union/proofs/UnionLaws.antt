@@ -1,6 +1,7 @@
 -- Request 2026-09's promise (`specs/Union.antt`): the union of two accepted annotations is accepted; closing twice adds nothing; more
 -- facts never pass on fewer.
---     instructions-same, facts-both    what the union's words are read as
+--     length-union, word-union         the words of a union
+--     instructions-same, facts-both    what they are read as
 --     union-obeys, union-known         questions 8 to 11 of the union of two notes, since closing and passing on are monotone
 --     together                         the promise, for every stored form
 -- Assumes nothing.
@@ -60,25 +61,27 @@ module _ (a b : List ℕ) (e : length a ≡ length b) where
   abbrev u : List ℕ
   u = unionWords a b
 
-  length-union : length u ≡ length a
+  pub length-union : length u ≡ length a
   unfolding unionWords
   length-union = length-from 0 a b e
 
+  pub word-union : (i : ℕ) → getD u i 0 ≡ cond (eqb (i % 8) 0) (getD a i 0) (bitOr (getD a i 0) (getD b i 0))
+  unfolding unionWords
+  word-union i = let z : 0 + i ≡ i = omega arith in rw z at (word-from 0 a b i e)
+
   -- the first word of a line is that of the first script
   first-same : (l : ℕ) → getD u (8 * l) 0 ≡ getD a (8 * l) 0
-  unfolding unionWords
   first-same l =
       let i = 8 * l in
-      let z : (0 + i) % 8 ≡ 0 = omega arith in
-      word-from 0 a b i e ∙ ap (λ c. cond c (getD a i 0) (bitOr (getD a i 0) (getD b i 0))) (eq-eqb _ 0 z)
+      let z : i % 8 ≡ 0 = omega arith in
+      word-union i ∙ ap (λ c. cond c (getD a i 0) (bitOr (getD a i 0) (getD b i 0))) (eq-eqb _ 0 z)
 
   -- and the n-th of the others has the bits of both
   other-both : (l n : ℕ) → n < 7 → getD u (8 * l + 1 + n) 0 ≡ bitOr (getD a (8 * l + 1 + n) 0) (getD b (8 * l + 1 + n) 0)
-  unfolding unionWords
   other-both l n h =
       let i = 8 * l + 1 + n in
-      let z : (0 + i) % 8 ≡ 0 → ⊥ = λ (q : (0 + i) % 8 ≡ 0). omega arith in
-      word-from 0 a b i e ∙ ap (λ c. cond c (getD a i 0) (bitOr (getD a i 0) (getD b i 0))) (ne-eqb _ 0 z)
+      let z : i % 8 ≡ 0 → ⊥ = λ (q : i % 8 ≡ 0). omega arith in
+      word-union i ∙ ap (λ c. cond c (getD a i 0) (bitOr (getD a i 0) (getD b i 0))) (ne-eqb _ 0 z)
 
   module _ (form : Form) where
     -- questions 5 to 7 see the first script

@@ -24,6 +24,9 @@ slice-aggregate-answer-history c = search needs
 answer-history-requires : tie.Need-answer-history-requires
 answer-history-requires c κs = search needs
 
+answer-pair-requires : tie.Need-answer-pair-requires
+answer-pair-requires c κs = search needs
+
 slice-aggregate-load-words : tie.Need-slice-aggregate-load-words
 slice-aggregate-load-words c = search needs
 
@@ -84,6 +87,9 @@ returns-6 c = search needs
 returns-7 : tie.Need-returns-7
 returns-7 c = search needs
 
+returns-8 : tie.Need-returns-8
+returns-8 c = search needs
+
 pub answer-spec : {M : Type 1} → statement M
 answer-spec =
     tie.close
@@ -94,6 +100,7 @@ answer-spec =
     load-numbers-requires
     slice-aggregate-answer-history
     answer-history-requires
+    answer-pair-requires
     slice-aggregate-load-words
     load-words-requires
     array-share-prefix-script
@@ -113,4 +120,5 @@ answer-spec =
     returns-4
     returns-5
     returns-6
-    returns-7)
+    returns-7
+    returns-8)

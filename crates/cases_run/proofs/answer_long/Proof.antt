@@ -6,6 +6,12 @@ use borrow.Author.Needs.{needs}
 use Rattle.cases_run.proofs.answer_long.Statement.{statement}
 use Rattle.cases_run.proofs.answer_long.Tie as tie
 
+answer-pair64-requires : tie.Need-answer-pair64-requires
+answer-pair64-requires c κs = search needs
+
+returns : tie.Need-returns
+returns c = search needs
+
 slice-aggregate-load-long : tie.Need-slice-aggregate-load-long
 slice-aggregate-load-long c = search needs
 
@@ -54,19 +60,21 @@ slice-aggregate-answer-machine-2 c = search needs
 answer-machine-requires : tie.Need-answer-machine-requires
 answer-machine-requires c κs = search needs
 
-returns : tie.Need-returns
-returns c = search needs
-
 returns-2 : tie.Need-returns-2
 returns-2 c = search needs
 
 returns-3 : tie.Need-returns-3
 returns-3 c = search needs
 
+returns-4 : tie.Need-returns-4
+returns-4 c = search needs
+
 pub answer-long-spec : {M : Type 1} → statement M
 answer-long-spec =
     tie.close
     (tie.spec
+    answer-pair64-requires
+    returns
     slice-aggregate-load-long
     load-long-requires
     array-share-prefix-script
@@ -83,6 +91,6 @@ answer-long-spec =
     slice-aggregate-answer-machine
     slice-aggregate-answer-machine-2
     answer-machine-requires
-    returns
     returns-2
-    returns-3)
+    returns-3
+    returns-4)
