@@ -50,10 +50,12 @@ loop-again c =
     let l = c .before .before .before .before .before .before .before .before .before .before .before .before .before .loop in
     let count = c .before .before .before .before .before .before .before .before .before .before .before .before .before .before .count-words .ensures in
     let inside = c .before .before .before .before .before .before .before .before .before .before .before .before .loop-test .taken in
-    let put = c .before .before .before .before .put-word in
-    (omega arith, uniting-next (a .is-wide) (a .narrow .now) (a .wide .now) (a .other-narrow .now) (a .other-wide .now) (c .before .before .before .before .before .before .before .before .before .before .before .before .before .before .before .before .before .before .before .pre) (l .i) _ _ _ _ _ _ _
-    (omega (arith, c .before .before .before .before .before .before .before .before .before .before .before .before .before .before .before .before .before .before .before .pre)) (c .before .before .before .before .before .before .before .before .before .word-at .ensures) (c .before .before .before .before .before .before .before .before .word-at2 .ensures) (c .before .before .before .before .before .before .before .united .ensures) (put .ensures)
-    (l .inv .1) (put .kept .1 .1 .0) (put .kept .1 .1 .1 .0))
+    let put = c .before .before .before .before .put-word in (
+      omega arith,
+      uniting-next (a .is-wide) (a .narrow .now) (a .wide .now) (a .other-narrow .now) (a .other-wide .now) (c .before .before .before .before .before .before .before .before .before .before .before .before .before .before .before .before .before .before .before .pre) (l .i) _ _ _ _ _ _ _
+          (omega (arith, c .before .before .before .before .before .before .before .before .before .before .before .before .before .before .before .before .before .before .before .pre)) (c .before .before .before .before .before .before .before .before .before .word-at .ensures) (c .before .before .before .before .before .before .before .before .word-at2 .ensures) (c .before .before .before .before .before .before .before .united .ensures) (put .ensures)
+          (l .inv .1) (put .kept .1 .1 .0) (put .kept .1 .1 .1 .0),
+    )
 
 same-length : tie.Need-same-length Inv-loop μ-loop
 same-length c = c .before .loop .inv .1 .narrow-size
