@@ -52,6 +52,11 @@ impl Facts {
     pub fn meet(&self, other: &Facts) -> Facts {
         Facts { set: std::array::from_fn(|k| self.set[k] & other.set[k]) }
     }
+
+    /// The facts that are in one or the other.
+    pub fn union(&self, other: &Facts) -> Facts {
+        Facts { set: std::array::from_fn(|k| self.set[k] | other.set[k]) }
+    }
 }
 
 /// A rule of the reference that is made wrong on purpose.
@@ -121,6 +126,10 @@ pub enum Fault {
     ReadyBeforeInput,
     /// A present that finds the history full moves the priors on.
     PriorsMovedAtFull,
+    /// A 9 that sets 0 gives W for F only where T does not stand too.
+    TrueHidesFalse,
+    /// Closing takes away T and F of a node, tests left out, that its operands or its prior do not give.
+    ClosingRemoves,
 }
 
 thread_local! {
@@ -165,6 +174,10 @@ pub fn close(rule: &Rule, noted: &Facts) -> Facts {
     let mut s = *noted;
     for (i, d) in rule.nodes.iter().enumerate() {
         let (l, r) = (d.left as usize, d.right as usize);
+        if planted(Fault::ClosingRemoves) && d.branch().is_none() {
+            s.drop(T, i);
+            s.drop(F, i);
+        }
         match d.kind {
             0 => s.add(F, i),
             3 => {
@@ -208,7 +221,7 @@ pub fn first_facts(rule: &Rule) -> Facts {
 }
 
 /// The node whose value now is what W says of node i's work bit: it is the next prior of a past node, and the value now of a shared one.
-fn worked_out(rule: &Rule, i: usize) -> usize {
+pub fn worked_out(rule: &Rule, i: usize) -> usize {
     if rule.nodes[i].kind == 5 {
         rule.nodes[i].left as usize
     } else {
@@ -280,7 +293,8 @@ fn pass_open(rule: &Rule, line: &Line, s: Facts) -> (Option<Facts>, Option<Facts
             let k = worked_out(rule, c);
             n.drop(W, c);
             n.drop(C, c);
-            if (line.r == 1 && s.has(T, k)) || (line.r == 0 && s.has(F, k)) {
+            let hidden = planted(Fault::TrueHidesFalse) && s.has(T, k);
+            if (line.r == 1 && s.has(T, k)) || (line.r == 0 && s.has(F, k) && !hidden) {
                 n.add(W, c);
             }
             if (line.r == 1 && s.has(A, c)) || (line.r == 0 && s.has(B, c)) {

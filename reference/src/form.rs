@@ -2,9 +2,10 @@
 //! significant bit on, and only the length of a word and of an operand's number tells them apart. What has been read knows no form.
 use crate::{no, No};
 use std::fmt::Debug;
+use std::ops::BitOr;
 
 /// A word of a stored form.
-pub trait Word: Copy + Debug + PartialEq + Into<u64> + TryFrom<u64> {
+pub trait Word: Copy + Debug + PartialEq + Into<u64> + TryFrom<u64> + BitOr<Output = Self> {
     const BITS: u32;
 
     /// A word of facts has a bit for each node.

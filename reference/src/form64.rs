@@ -6,6 +6,7 @@ use crate::machine::{nodes_in, run_in, step_stored_in, Machine, Ran};
 use crate::rule::{check_rule_in, Node, Rule};
 use crate::script::{check_bare_in, check_instructions_in, check_script_in, encode_lines_in, Line};
 use crate::text::read_text_in;
+use crate::unions::union_in;
 use crate::weave::weave_in;
 use crate::No;
 
@@ -31,6 +32,10 @@ pub fn check_script(rule: &[u64], words: &[u64]) -> Result<(Rule, Vec<Line>), No
 
 pub fn encode_lines(lines: &[Line]) -> Vec<u64> {
     encode_lines_in(lines)
+}
+
+pub fn union(one: &[u64], other: &[u64]) -> Vec<u64> {
+    union_in(one, other)
 }
 
 pub fn weave(rule: &[u64], bare: &[u32], output: &mut [u64]) -> Result<usize, No> {

@@ -21,12 +21,17 @@ fn most_facts(rule: &Rule, lines: &[Line]) -> Vec<Facts> {
     most
 }
 
-/// Notes the largest facts that questions 8, 9 and 11 let pass. A follower keeps what each line that leads to it passes on; a line that
-/// has lost facts passes on fewer, so it is looked at again.
+/// Notes the largest facts that questions 8, 9 and 11 let pass.
 pub fn note_largest(rule: &Rule, lines: &mut [Line]) {
     for (i, facts) in most_facts(rule, lines).into_iter().enumerate() {
         lines[i].facts = facts;
     }
+    keep_passed(rule, lines);
+}
+
+/// Takes away what question 11 does not let pass. A follower keeps what each line that leads to it passes on; a line that has lost facts
+/// passes on fewer, so it is looked at again.
+pub fn keep_passed(rule: &Rule, lines: &mut [Line]) {
     let mut again: VecDeque<usize> = (0..lines.len()).collect();
     while let Some(i) = again.pop_front() {
         let passed = pass(rule, &lines[i]);

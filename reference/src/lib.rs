@@ -16,6 +16,7 @@ pub mod ready;
 pub mod rule;
 pub mod script;
 pub mod text;
+pub mod unions;
 pub mod weave;
 
 /// A "no": the question's number and the place.

@@ -1,26 +1,15 @@
 //! The largest facts: cases, and small scripts beside every annotation that they can have.
-use reference::facts::{all_facts, first_facts, pass, Facts, A, B, C, F, M, T, W};
+mod small;
+
+use reference::facts::{all_facts, first_facts, Facts, A, B, C, F, M, T, W};
 use reference::generate;
 use reference::largest::find_facts;
 use reference::random::Rng;
-use reference::rule::{check_rule, Rule};
+use reference::rule::check_rule;
 use reference::script::{check_instructions, check_script, encode_lines, instruction_words, Line};
 use reference::weave::weave_lines;
 use reference::{no, No};
-
-/// Register 1 = 1 since register 2 = 1.
-const SINCE: [u32; 3] = [0x2200_0800, 0x2400_0800, 0x8000_0002];
-
-const HALT: Line = line(0, 0, 0, 0);
-const PRESENT: Line = line(8, 0, 0, 0);
-
-const fn line(op: u8, r: u8, c: u16, target: u16) -> Line {
-    Line { op, r, c, target, zero: 0, facts: Facts { set: [0; 7] } }
-}
-
-fn go(target: u16) -> Line {
-    line(7, 0, 0, target)
-}
+use small::{alphabet, every_obeying, every_script, go, line, subsets, HALT, PRESENT, RULES, SINCE, SMALL_RULES};
 
 /// The lines with their largest facts, and how many these are. They are accepted, and counted as they stand.
 fn find(rule: &[u32], lines: &[Line]) -> Result<(Vec<Line>, usize), No> {
@@ -41,9 +30,6 @@ fn tone() -> Vec<Line> {
     let bare = [line(4, 1, 0, 0), line(4, 2, 0, 0), PRESENT, go(0)];
     weave_lines(&check_rule(&SINCE).unwrap(), &bare).0
 }
-
-/// Rules in which each node is an operand once, and rules with shared nodes.
-const RULES: [fn(&mut Rng, usize) -> Rule; 2] = [generate::rule, generate::sharing_rule];
 
 /// A woven script stripped of its facts is found to have them, and more.
 #[test]
@@ -180,18 +166,6 @@ fn questions_in_order() {
     assert!(out[128..] == [7; 3] && check_script(&SINCE, &out[..128]).is_ok());
 }
 
-/// All subsets of some facts.
-fn subsets(of: &Facts) -> Vec<Facts> {
-    let mut all = vec![Facts::none()];
-    for fact in 0..7 {
-        for node in (0..32).filter(|&node| of.has(fact, node)) {
-            let with: Vec<Facts> = all.iter().map(|f| f.with(fact, node)).collect();
-            all.extend(with);
-        }
-    }
-    all
-}
-
 /// What was met by the searches that stand beside all annotations.
 #[derive(Default, Debug)]
 struct Seen {
@@ -236,56 +210,11 @@ fn every_choice(choices: &[Vec<Facts>], lines: &mut [Line], at: usize, put: &mut
     }
 }
 
-/// Instructions that have to do with a rule, in a script of n lines: halt, input into register 1, the rule's tests, gos, present, and
-/// the bits of its past and shared nodes, with every target.
-fn alphabet(rule: &Rule, n: u16) -> Vec<Line> {
-    let mut all = vec![HALT, line(4, 1, 0, 0), PRESENT];
-    for target in 0..n {
-        all.push(go(target));
-        all.extend(rule.nodes.iter().filter_map(|d| d.branch().map(|op| line(op, d.register, d.constant, target))));
-        all.extend(rule.past_nodes().iter().map(|&i| line(10, 0, i as u16, target)));
-        all.extend(rule.work_nodes().iter().map(|&i| line(11, 0, i as u16, target)));
-    }
-    for i in rule.work_nodes() {
-        all.extend([line(9, 0, i as u16, 0), line(9, 1, i as u16, 0)]);
-    }
-    all.extend(rule.past_nodes().iter().map(|&i| line(12, 0, i as u16, 0)));
-    all
-}
-
-/// Every script of n instructions that question 7 lets pass.
-fn every_script(rule: &Rule, n: usize) -> Vec<Vec<Line>> {
-    let instructions = alphabet(rule, n as u16);
-    let mut all: Vec<Vec<Line>> = vec![vec![]];
-    for _ in 0..n {
-        all = all.iter().flat_map(|s| instructions.iter().map(|&l| [&s[..], &[l]].concat())).collect();
-    }
-    all.retain(|s| check_instructions(&rule.words(), &instruction_words(s)).is_ok());
-    all
-}
-
 /// Every script of the alphabet, and every annotation of it: all sets of facts that belong at every line, at line 0 those among the
-/// first facts (question 9 refuses the others). Rules of one node have up to four lines, an implies
-/// up to three, a past node or two shared ones two.
+/// first facts (question 9 refuses the others).
 #[test]
 fn every_annotation_of_every_small_script() {
-    let (a, b) = (0x2200_0800, 0x2400_0800);
-    let rules: [(&[u32], usize); 12] = [
-        (&[0], 4),
-        (&[a], 4),
-        (&[0xc200_1000], 4),
-        (&[a, b, 3 << 29 | 1 << 1], 3),
-        (&[a, 0, 3 << 29 | 1 << 1], 3),
-        (&[a, 5 << 29], 2),
-        (&[0, 5 << 29], 2),
-        (&SINCE, 2),
-        // a shared test, a shared implies of a shared test, a shared test and a shared false under a since
-        (&[a, 3 << 29], 3),
-        (&[a, 3 << 29, 3 << 29 | 1 << 6 | 1 << 1], 2),
-        (&[a, 4 << 29], 2),
-        (&[0, 4 << 29], 2),
-    ];
-    for (words, most) in rules {
+    for (words, most) in SMALL_RULES {
         let rule = check_rule(words).unwrap();
         let (first, all) = (subsets(&first_facts(&rule)), subsets(&all_facts(&rule)));
         let mut seen = Seen::default();
@@ -301,40 +230,6 @@ fn every_annotation_of_every_small_script() {
         println!("{words:x?}, up to {most} lines: {seen:?}");
         assert!(seen.found > 0 && seen.refused > 0 && seen.accepted > seen.found);
     }
-}
-
-/// Every annotation that obeys questions 8, 9 and 11, line by line: a choice is given up where a line chosen already does not pass on
-/// what another notes. Answers false where there are more than so many.
-fn every_obeying(rule: &Rule, lines: &mut [Line], at: usize, left: &mut u32, put: &mut impl FnMut(&[Line])) -> bool {
-    if at == lines.len() {
-        put(lines);
-        return true;
-    }
-    let to = |l: &Line, i: usize, follower: usize| {
-        let p = pass(rule, l);
-        let target = p.target.filter(|_| l.target as usize == follower);
-        let next = p.next.filter(|_| i + 1 == follower);
-        [target, next].into_iter().flatten().reduce(|f, g| f.meet(&g))
-    };
-    let room = if at == 0 { first_facts(rule) } else { all_facts(rule) };
-    let room = (0..at).filter_map(|i| to(&lines[i], i, at)).fold(room, |f, g| f.meet(&g));
-    let ones: u32 = room.set.map(u64::count_ones).iter().sum();
-    if ones > 16 {
-        return false;
-    }
-    for facts in subsets(&room) {
-        if *left == 0 {
-            return false;
-        }
-        *left -= 1;
-        lines[at].facts = facts;
-        let refused = |follower: usize| to(&lines[at], at, follower).is_some_and(|f| !lines[follower].facts.among(&f));
-        let obeys = !(0..=at).any(refused);
-        if obeys && !every_obeying(rule, lines, at + 1, left, put) {
-            return false;
-        }
-    }
-    true
 }
 
 /// Random scripts of the alphabet, two to five lines, for random rules of one to three nodes, or two to four with nodes used again, and
@@ -366,7 +261,7 @@ fn every_obeying_annotation_of_random_scripts() {
         for lines in &noted {
             seen.annotation(&rule.words(), lines, &answer);
             for (t, l) in together.iter_mut().zip(lines) {
-                t.set = std::array::from_fn(|k| t.set[k] | l.facts.set[k]);
+                *t = t.union(&l.facts);
             }
         }
         match answer {
