@@ -163,6 +163,34 @@ fn long_loop(g: &mut Rng, rule: &Rule) -> Vec<Line> {
     (0..n).map(|i| if (1..after).contains(&i) { body[i - 1] } else { way(i) }).collect()
 }
 
+/// A guard made by hand, or instructions at random; sometimes with something changed or in another order.
+pub fn by_hand(g: &mut Rng, rule: &Rule) -> Vec<Line> {
+    let mut lines = if g.chance(1, 3) { requests::instructions(g, rule) } else { straight(g, rule) };
+    if g.chance(1, 3) {
+        change(g, rule, &mut lines);
+    }
+    if g.chance(1, 6) {
+        lines = laid(g, &lines);
+    }
+    lines
+}
+
+/// A halt, then single instructions that nothing leads to, so that any facts may be noted there, each before a halt that has what it passes
+/// on. Often a work bit is set.
+pub fn unled(g: &mut Rng, rule: &Rule) -> Vec<Line> {
+    let halt = line(0, 0, 0, 0);
+    let (some, work) = (requests::instructions(g, rule), rule.work_nodes());
+    let mut lines = vec![halt];
+    for _ in 0..g.within(1, 8) {
+        let new = if !work.is_empty() && g.chance(1, 2) { line(9, g.below(2) as u8, g.pick(&work), 0) } else { g.pick(&some) };
+        // to its own halt or to one before it
+        let target = if g.chance(1, 2) { lines.len() + 1 } else { 2 * g.below(lines.len() / 2 + 1) };
+        lines.push(if new.uses_target() { Line { target: target as u16, ..new } } else { new });
+        lines.push(halt);
+    }
+    lines
+}
+
 /// Instructions of an annotated script for a rule, one word a line, sometimes spoiled.
 pub fn instructions(g: &mut Rng, rule: &Rule) -> Vec<u32> {
     let mut lines = match g.below(16) {

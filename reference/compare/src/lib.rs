@@ -4,6 +4,7 @@ pub mod face;
 pub mod faced;
 pub mod guards;
 pub mod lent;
+pub mod pairs;
 pub mod proved;
 pub mod request;
 pub mod requests;

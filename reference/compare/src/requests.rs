@@ -81,7 +81,7 @@ fn rule_size<W: Word>(g: &mut Rng) -> usize {
 }
 
 /// A rule that passes, in which nodes are used again or not; and its words, sometimes spoiled.
-fn rule<W: Form>(g: &mut Rng, again: bool, spoiled: usize) -> (Rule, Vec<W>) {
+pub fn rule<W: Form>(g: &mut Rng, again: bool, spoiled: usize) -> (Rule, Vec<W>) {
     let size = rule_size::<W>(g);
     let rule = if again { generate::sharing_rule(g, size) } else { generate::rule(g, size) };
     let mut words = rule.words_in();
@@ -668,7 +668,7 @@ pub fn moving<W: Form>(seed: u64, n: u64) -> Request<W> {
 }
 
 /// What request number `n` of a seed is made from.
-fn numbered(seed: u64, n: u64) -> Rng {
+pub fn numbered(seed: u64, n: u64) -> Rng {
     let mut g = Rng(seed ^ n.wrapping_mul(0xd134_2543_de82_ef95));
     g.next();
     g

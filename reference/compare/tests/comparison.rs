@@ -125,6 +125,8 @@ fn planted_faults_are_noticed() {
         Fault::PriorsAreKept,
         Fault::ReadyBeforeInput,
         Fault::PriorsMovedAtFull,
+        Fault::TrueHidesFalse,
+        Fault::ClosingRemoves,
     ] {
         println!("{fault:?}: request {}, in the second form {}", noticed(fault, request::<u32>), noticed(fault, request::<u64>));
     }
