@@ -128,7 +128,7 @@ pub enum Fault {
     PriorsMovedAtFull,
     /// A 9 that sets 0 gives W for F only where T does not stand too.
     TrueHidesFalse,
-    /// Closing takes away T and F of a node, tests left out, that its operands or its prior do not give.
+    /// Closing takes away T and F of a node that is no test, where its operands and prior do not give them.
     ClosingRemoves,
 }
 

@@ -276,9 +276,10 @@ fn every_union_of_random_scripts() {
 /// Where a T hides an F there are accepted annotations whose union is refused.
 #[test]
 fn a_fault_refuses_unions() {
-    let shared_test = SMALL_RULES[8];
-    assert!(!check_rule(shared_test.0).unwrap().shared_nodes().is_empty());
-    let seen = with_planted_fault(Fault::TrueHidesFalse, || every_small_script::<u32>(shared_test.0, shared_test.1));
+    let shares = |words: &[u32]| !check_rule(words).unwrap().shared_nodes().is_empty();
+    // with a line before the 9 and one after it
+    let (words, most) = SMALL_RULES.into_iter().find(|&(words, most)| most > 2 && shares(words)).unwrap();
+    let seen = with_planted_fault(Fault::TrueHidesFalse, || every_small_script::<u32>(words, most));
     assert!(seen.refused > 0, "{seen:?}");
     let seen = with_planted_fault(Fault::TrueHidesFalse, || random_scripts(2_000));
     assert!(seen.refused > 0, "{seen:?}");
