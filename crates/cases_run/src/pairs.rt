@@ -61,10 +61,10 @@ fn check_in(
 }
 
 fn is_passed(a: Answer) -> bool {
-    match a {
-        Answer::Passed => true,
-        Answer::Refused { question, place } => false,
-    }
+    let Answer::Passed = a else {
+        return false;
+    };
+    true
 }
 
 // What the checker says of each, and of their union, if both are accepted; then the union.
@@ -97,7 +97,7 @@ fn answer_both(
     }
 }
 
-// The first half of the words from `at` on, and the second.
+// The first half of the words from `at` on, and the second. What is lent of the other form is not looked at.
 pub(crate) fn answer_pair(s: &[u8], rule: &[u32], at: usize, count: usize)
     requires { ⌜ (at ≤ 20000) × (count ≤ 16384) ⌝ }
 {
