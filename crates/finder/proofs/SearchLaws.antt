@@ -20,7 +20,6 @@ use native.Mathlib.Omega.{arith}
 use lib.ListN.{length, getD, set, length-set, replicate, length-replicate}
 use lib.Seq.{getD-set-same, getD-set-other}
 use borrow.Author.Tests.{ltb-true}
-use Rattle.spec.specs.Questions.{passed}
 use Rattle.spec.specs.Rule.{form64, Table}
 use Rattle.spec.specs.Script.{instructionRead, Code, bareCode, instructionAt, targetOf, goesOn, namesAllowed, isLine, followersExist, Instruction}
 use Rattle.spec.specs.Facts.{wordNumber, Facts, _⊑_, belongs, close, pass, firstFacts}

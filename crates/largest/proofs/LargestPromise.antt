@@ -16,7 +16,7 @@ use Rattle.spec.specs.Questions.{Checked, _then_, ask, askOnce, passed, refused
 use Rattle.spec.specs.Rule.{Form, Table, tableOf, lastNode, question1, question2, question3, question4, checkRule}
 use Rattle.spec.specs.Script.{Instruction, Code, instructionAt, isPresent, fieldsOf, instructionRead, fieldsFor, wordFor, Stored, bareStored, bareCode, mostLines, question5, annotatedOpcode, lineAllowed, question6, followersExist, question7, checkCode}
 use Rattle.spec.specs.Facts.{_⊑_, belongs, close, valueIs}
-use Rattle.spec.specs.Check.{Lines, lineAt, codeOf, linesOf, annotatedStored, factsBelong, question8, question9, presentKnown, question10, factsFollow, question11, checkFacts, checkScript}
+use Rattle.spec.specs.Check.{Lines, lineAt, codeOf, linesOf, annotatedStored, factsBelong, question8, question9, presentKnown, factsFollow, question11, checkScript}
 use Rattle.spec.specs.Weaver.{outputFor}
 use Rattle.spec.specs.Promise.{Accepted}
 use Rattle.largest.specs.Notes.{notesOf, Obeys}

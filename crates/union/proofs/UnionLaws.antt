@@ -7,7 +7,7 @@
 -- Assumes nothing.
 use mathlib.Core.Path.{_≡_, refl, sym, subst, ap, ap₂, _∙_, fun-ext}
 use mathlib.Core.Logic.{inl, inr}
-use mathlib.Core.Bool.{Bool, true, false, cond, _||_}
+use mathlib.Core.Bool.{Bool, true, false, cond}
 use mathlib.Core.List.{List, [], _∷_}
 use Prim.Native.Nat.{ℕ, zero, suc, _+_, _*_, _/_, _%_, _≤_, _<_}
 use native.Mathlib.Omega.{arith}
@@ -16,10 +16,9 @@ use lib.Seq.{ext-getD}
 use lib.Dec.{eqb}
 use lib.Bits.{bitOr}
 use borrow.Author.Tests.{eqb-true, eq-eqb, ne-eqb}
-use Rattle.spec.specs.Questions.{passed}
 use Rattle.spec.specs.Rule.{Form, Table, tableOf, lastNode}
 use Rattle.spec.specs.Script.{Instruction, halt, Code, instructionAt, isPresent, instructionRead, annotatedOpcode, checkCode}
-use Rattle.spec.specs.Facts.{Fact, wordNumber, valueIs, belongs, Facts, _∪_, _⊑_, firstFacts}
+use Rattle.spec.specs.Facts.{Fact, wordNumber, valueIs, belongs, _∪_, _⊑_, firstFacts}
 use Rattle.spec.specs.Check.{lineAt, codeOf, nodesIn, linesOf, annotatedStored, presentKnown}
 use Rattle.spec.specs.Promise.{Accepted}
 use Rattle.sets.specs.Sets.{uniting}

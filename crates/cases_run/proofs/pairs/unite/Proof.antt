@@ -1,7 +1,5 @@
 -- `cases_run::pairs::unite` meets its contract: the loop keeps that the first i words are the union's (`PairLaws`). Assumes nothing.
 use Prim.Native.Nat.{_-_, _≤_}
-use lib.ListN.{length}
-use Rattle.rule.specs.Nodes.{storedIn}
 use Rattle.cases_run.proofs.PairLaws.{Uniting, uniting-start, uniting-next, uniting-end}
 use native.Mathlib.Omega.{arith}
 use borrow.Author.Needs.{needs}
