@@ -171,8 +171,9 @@ uint32_t guard_bare(const uint32_t *rule, size_t rule_length, const uint32_t *sc
                     uint64_t *numbers, size_t numbers_length);
 
 /* An annotated script for a rule: questions 1 to 11. With 0 it is accepted: whatever the inputs, the rule is true at every
- * presentation that it makes. `script_length` counts words, eight for a line. Two accepted scripts with the same instructions may be put
- * together: of each line the first word, and the bitwise or of the two scripts' other seven. That is accepted too. */
+ * presentation that it makes. `script_length` counts words, eight for a line. Two scripts with the same instructions that are both
+ * accepted for a rule may be put together: of each line the first word, and of each of the other seven the bitwise or. That is
+ * accepted too. */
 enum { GUARD_SCRIPT_NUMBERS = 1 /* place */ };
 uint32_t guard_script(const uint32_t *rule, size_t rule_length, const uint32_t *script, size_t script_length,
                       uint64_t *numbers, size_t numbers_length);
