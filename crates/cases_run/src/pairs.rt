@@ -10,17 +10,14 @@ use rule::stored::count_words;
 use rule::stored::put_word;
 use rule::stored::word_at;
 ghost use mathlib.Core.Path.{_≡_};
-ghost use mathlib.Core.Bool.{cond};
-ghost use Prim.Native.Nat.{_%_, _≤_};
-ghost use lib.Bits.{bitOr};
-ghost use lib.Dec.{eqb};
+ghost use Prim.Native.Nat.{_≤_};
 ghost use lib.ListN.{length};
 ghost use Rattle.rule.specs.Nodes.{storedIn};
-ghost use Rattle.union.specs.Union.{unionWords};
+ghost use Rattle.union.specs.Union.{unionWord, unionWords};
 
 // Word i of a union: the first of a line's eight is its instruction, the others are sets of facts.
 fn united(i: usize, word: u64, other: u64) -> u64
-    ensures { λ r. ⌜ r ≡ cond (eqb (i % 8) 0) word (bitOr word other) ⌝ }
+    ensures { λ r. ⌜ r ≡ unionWord i word other ⌝ }
 {
     if i % 8 == 0 { word } else { word | other }
 }

@@ -23,7 +23,7 @@ use Rattle.spec.specs.Check.{lineAt, codeOf, nodesIn, linesOf, annotatedStored,
 use Rattle.spec.specs.Promise.{Accepted}
 use Rattle.sets.specs.Sets.{uniting}
 use Rattle.largest.specs.Notes.{Notes, notesOf, passedAt, Obeys}
-use Rattle.union.specs.Union.{unionFrom, unionWords, SameInstructions, Together}
+use Rattle.union.specs.Union.{unionWord, unionFrom, unionWords, SameInstructions, Together}
 use Rattle.spec.proofs.BoolLaws.{either-not, not-either, le-or-lt}
 use Rattle.spec.proofs.RuleLaws.{InOrder, rule-out}
 use Rattle.spec.proofs.FactLaws.{⊑-trans, number-small, in-left, in-right, union-least}
@@ -48,7 +48,7 @@ neither true = refl
 neither false = refl
 
 word-from : (i : ℕ) (xs ys : List ℕ) (j : ℕ) → length xs ≡ length ys
-    → getD (unionFrom i xs ys) j 0 ≡ cond (eqb ((i + j) % 8) 0) (getD xs j 0) (bitOr (getD xs j 0) (getD ys j 0))
+    → getD (unionFrom i xs ys) j 0 ≡ unionWord (i + j) (getD xs j 0) (getD ys j 0)
 unfolding unionFrom
 word-from i [] [] j e = neither (eqb ((i + j) % 8) 0)
 word-from i [] (y ∷ ys) j e = absurd (omega arith)
@@ -64,7 +64,7 @@ module _ (a b : List ℕ) (e : length a ≡ length b) where
   unfolding unionWords
   length-union = length-from 0 a b e
 
-  pub word-union : (i : ℕ) → getD u i 0 ≡ cond (eqb (i % 8) 0) (getD a i 0) (bitOr (getD a i 0) (getD b i 0))
+  pub word-union : (i : ℕ) → getD u i 0 ≡ unionWord i (getD a i 0) (getD b i 0)
   unfolding unionWords
   word-union i = let z : 0 + i ≡ i = omega arith in rw z at (word-from 0 a b i e)
 
@@ -161,6 +161,9 @@ module _ (form : Form) (rule a b : List ℕ) (same : SameInstructions form a b) 
   pb : AcceptedNotes form rule b
   pb = accepted-out form rule b eb
 
+  ordered : InOrder t
+  ordered = rule-out form rule (pa .rule-passed) .ordered
+
   whole : (ws : List ℕ) → AcceptedNotes form rule ws → length ws % 8 ≡ 0
   whole ws p = eqb-true (length ws % 8) 0 (code-out t annotatedOpcode (annotatedStored form ws) (p .code-passed) .whole)
 
@@ -179,14 +182,14 @@ module _ (form : Form) (rule a b : List ℕ) (same : SameInstructions form a b) 
 
   obeys-joint : Obeys t (codeOf (linesOf form joint)) (notesOf (linesOf form joint))
   obeys-joint = subst (λ c. Obeys t c (notesOf (linesOf form joint))) (sym same-code)
-      (union-obeys t (rule-out form rule (pa .rule-passed) .ordered) (codeOf (linesOf form a)) (notesOf (linesOf form a)) (notesOf (linesOf form b)) _
+      (union-obeys t ordered (codeOf (linesOf form a)) (notesOf (linesOf form a)) (notesOf (linesOf form b)) _
       (facts-both a b same-length form) (pa .obeys) (subst (λ c. Obeys t c (notesOf (linesOf form b))) (sym same) (pb .obeys)))
 
   known-joint : (l : ℕ) → l < length (linesOf form joint) → presentKnown t (lineAt (linesOf form joint) l) ≡ true
   known-joint l h =
       let at : lineAt (linesOf form a) l .instruction ≡ lineAt (linesOf form joint) l .instruction =
       sym (same-line (linesOf form a) l) ∙ ap (λ c. instructionAt c l) (sym same-code) ∙ same-line (linesOf form joint) l in
-      union-known t (rule-out form rule (pa .rule-passed) .ordered) (codeOf (linesOf form a)) (notesOf (linesOf form a)) (notesOf (linesOf form b)) _
+      union-known t ordered (codeOf (linesOf form a)) (notesOf (linesOf form a)) (notesOf (linesOf form b)) _
       (facts-both a b same-length form) l (lineAt (linesOf form joint) l .instruction)
       (subst (λ i. presentKnown t (record { instruction = i; annotation = notesOf (linesOf form a) l }) ≡ true) at
       (pa .known l (omega (arith, length-codes (linesOf form a), length-codes (linesOf form joint), ap length same-code))))
@@ -205,5 +208,5 @@ together form = record {
   instructions = λ a b e. instructions-same a b e form;
   facts = λ a b e. facts-both a b e form;
   twice = λ rule e F. fun-ext (λ f. fun-ext (close-twice (tableOf form rule) (rule-out form rule e .ordered) F f));
-  more = λ rule e i taken F G. passed-on-mono (tableOf form rule) (rule-out form rule e .ordered) i F G taken;
+  more = λ rule e. passed-on-mono (tableOf form rule) (rule-out form rule e .ordered);
 }

@@ -8,7 +8,7 @@ use lib.ListN.{length}
 use lib.Bits.{bitOr}
 use lib.Dec.{eqb}
 use Rattle.spec.specs.Questions.{passed}
-use Rattle.spec.specs.Rule.{Form, Table, tableOf, checkRule}
+use Rattle.spec.specs.Rule.{Form, tableOf, checkRule}
 use Rattle.spec.specs.Script.{Instruction}
 use Rattle.spec.specs.Facts.{Facts, _∪_, _⊑_, close}
 use Rattle.spec.specs.Check.{lineAt, lineLength, codeOf, linesOf, passedOn}
@@ -16,11 +16,15 @@ use Rattle.spec.specs.Promise.{Accepted}
 
 -- ---- the union
 
--- from word i on: the first of a line's eight words is its instruction; the other seven are sets of facts, put together bit by bit
+-- word i of both: the first of a line's eight words is its instruction; the other seven are sets of facts, put together bit by bit
+abbrev pub unionWord : (i word word′ : ℕ) → ℕ
+unionWord i x y = cond (eqb (i % lineLength) 0) x (bitOr x y)
+
+-- the words from word i on
 unfoldable pub unionFrom : (i : ℕ) → List ℕ → List ℕ → List ℕ
 unionFrom i [] ys = []
 unionFrom i (x ∷ xs) [] = []
-unionFrom i (x ∷ xs) (y ∷ ys) = cond (eqb (i % lineLength) 0) x (bitOr x y) ∷ unionFrom (suc i) xs ys
+unionFrom i (x ∷ xs) (y ∷ ys) = unionWord i x y ∷ unionFrom (suc i) xs ys
 
 -- two annotated scripts put together
 unfoldable pub unionWords : (script script′ : List ℕ) → List ℕ
@@ -31,10 +35,6 @@ abbrev pub SameInstructions : Form → (script script′ : List ℕ) → Type 0
 SameInstructions form ws ws′ = codeOf (linesOf form ws) ≡ codeOf (linesOf form ws′)
 
 -- ---- the promise
-
--- what an instruction passes on, to its target (taken) or to the next line, of the facts F noted at its line
-abbrev pub passedFrom : Table → Instruction → (taken : Bool) → Facts → Facts
-passedFrom t i taken F = passedOn t (record { instruction = i; annotation = F }) taken
 
 pub record Together (form : Form) : Type 0 where
   -- If both are accepted for a rule, the line-by-line union is accepted too:
@@ -49,6 +49,7 @@ pub record Together (form : Form) : Type 0 where
   -- Closing facts twice adds nothing.
   pub twice : (rule : List ℕ) → checkRule form rule ≡ passed tt → (F : Facts)
       → close (tableOf form rule) (close (tableOf form rule) F) ≡ close (tableOf form rule) F
-  -- More facts at a line never pass on fewer.
-  pub more : (rule : List ℕ) → checkRule form rule ≡ passed tt → (i : Instruction) (taken : Bool) (F G : Facts) → F ⊑ G
-      → passedFrom (tableOf form rule) i taken F ⊑ passedFrom (tableOf form rule) i taken G
+  -- More facts at a line never pass on fewer, to the target (taken) or to the next line.
+  pub more : (rule : List ℕ) → checkRule form rule ≡ passed tt → (i : Instruction) (F G : Facts) (taken : Bool) → F ⊑ G
+      → passedOn (tableOf form rule) (record { instruction = i; annotation = F }) taken
+      ⊑ passedOn (tableOf form rule) (record { instruction = i; annotation = G }) taken
