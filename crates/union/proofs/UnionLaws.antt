@@ -205,6 +205,7 @@ module _ (form : Form) (rule a b : List ℕ) (same : SameInstructions form a b) 
 pub together : (form : Form) → Together form
 together form = record {
   union = union-accepted form;
+  lengths = same-length form;
   instructions = λ a b e. instructions-same a b e form;
   facts = λ a b e. facts-both a b e form;
   twice = λ rule e F. fun-ext (λ f. fun-ext (close-twice (tableOf form rule) (rule-out form rule e .ordered) F f));

@@ -40,7 +40,10 @@ pub record Together (form : Form) : Type 0 where
   -- If both are accepted for a rule, the line-by-line union is accepted too:
   pub union : (rule script script′ : List ℕ) → SameInstructions form script script′ → Accepted form rule script → Accepted form rule script′
       → Accepted form rule (unionWords script script′)
-  -- it has these instructions,
+  -- such a pair has one length,
+  pub lengths : (rule script script′ : List ℕ) → SameInstructions form script script′ → Accepted form rule script → Accepted form rule script′
+      → length script ≡ length script′
+  -- and the union of two of one length has the same instructions,
   pub instructions : (script script′ : List ℕ) → length script ≡ length script′ → SameInstructions form (unionWords script script′) script
   -- and at each line the facts of both.
   pub facts : (script script′ : List ℕ) → length script ≡ length script′ → (l : ℕ)
