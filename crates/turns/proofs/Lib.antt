@@ -1,0 +1,3 @@
+-- What follows from the definitions of `specs/`. No contract cites these files.
+pub mod StationsLaws
+pub mod StationsDemand
