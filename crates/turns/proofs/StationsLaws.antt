@@ -11,7 +11,7 @@
 use mathlib.Core.Path.{_≡_, refl, sym, subst, ap, _∙_}
 use mathlib.Core.Logic.{_⊎_, inl, inr}
 use mathlib.Core.Bool.{Bool, true, false, cond, _&&_, _||_}
-use mathlib.Core.Option.{Option, none, some}
+use mathlib.Core.Option.{Option, none, some, Option·elim}
 use mathlib.Core.List.{List}
 use Prim.Native.Nat.{ℕ, zero, suc, _+_, _-_, _%_, _≤_, _<_}
 use native.Mathlib.Nat.{zero-add}
@@ -129,6 +129,7 @@ module _ (form : Form) (x : Station) (left : ℕ) (m : Machine) where
   here = instructionFor form x m
 
   not-stopped : (o : Option Stop) (b : Bool) → (isStopped o || b) ≡ false → (o ≡ none) × (b ≡ false)
+  unfolding Option·elim
   not-stopped none b e = (refl, e)
   not-stopped (some s) b e = clash refl e
 
@@ -147,7 +148,7 @@ module _ (form : Form) (x : Station) (left : ℕ) (m : Machine) where
       record { runs = a; allowed = some-left (isPresent here) b }
 
   pub able-in : Able form x left m → passedOver form x left m ≡ false
-  unfolding passedAt
+  unfolding passedAt Option·elim
   able-in a = go (stops (x .inputs) here m) (isPresent here) left (a .runs) (a .allowed)
     where
       go : (o : Option Stop) (b : Bool) (l : ℕ) → o ≡ none → (b ≡ true → 0 < l) → (isStopped o || (b && eqb l 0)) ≡ false

@@ -2,7 +2,7 @@
 -- A run of four stations: their turns, when a station is passed over, when the run ends, and what is refused.
 -- `specs/StationsPromise.antt` says what holds of it.
 use mathlib.Core.Bool.{Bool, true, false, cond, _&&_, _||_}
-use mathlib.Core.Option.{Option, none, some}
+use mathlib.Core.Option.{Option, Option·elim}
 use mathlib.Core.List.{List}
 use Prim.Native.Nat.{ℕ, zero, suc, _-_, _%_}
 use lib.Dec.{eqb}
@@ -80,9 +80,9 @@ stationAt t = t % stationCount
 abbrev pub instructionFor : Form → Station → Machine → Instruction
 instructionFor form x m = instructionAt (codeOf (linesOf form (x .script))) (m .line)
 
+-- is there a stop?
 abbrev pub isStopped : Option Stop → Bool
-isStopped none = false
-isStopped (some o) = true
+isStopped o = Option·elim o false (λ s. true)
 
 -- a booth is passed over when halted, dry or full, or when it would present and the allowance is 0; i is where it stands
 unfoldable pub passedAt : (inputs : List ℕ) → Instruction → (left : ℕ) → Machine → Bool
