@@ -130,6 +130,20 @@ pub enum Fault {
     TrueHidesFalse,
     /// Closing takes away T and F of a node that is no test, where its operands and prior do not give them.
     ClosingRemoves,
+    /// A station that is passed over at a present takes one from the allowance all the same.
+    PassTakes,
+    /// A pass is no turn.
+    PassIsNoTurn,
+    /// Turns go 0, 1, 2, 2.
+    LastHasNoTurn,
+    /// The stations' inputs are looked at before their rules and scripts.
+    InputsFirst,
+    /// The place of a station's refusal is the place within its rule, script or inputs.
+    PlaceIsTheLine,
+    /// Three passes in a row end a run of stations.
+    ThreePassesEnd,
+    /// A step does not end a row of passes.
+    PassesAddUp,
 }
 
 thread_local! {

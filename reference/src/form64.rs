@@ -5,6 +5,7 @@ use crate::largest::find_facts_in;
 use crate::machine::{nodes_in, run_in, step_stored_in, Machine, Ran};
 use crate::rule::{check_rule_in, Node, Rule};
 use crate::script::{check_bare_in, check_instructions_in, check_script_in, encode_lines_in, Line};
+use crate::stations::{run_stations_in, Station, Taken, STATIONS};
 use crate::text::read_text_in;
 use crate::unions::union_in;
 use crate::weave::weave_in;
@@ -60,4 +61,8 @@ pub fn step_stored(rule: &[u64], script: &[u64], inputs: &[u16], history: &mut [
 
 pub fn run(rule: &[u64], script: &[u64], inputs: &[u16], budget: u64, history: &mut [u16]) -> Result<Ran, No> {
     run_in(rule, script, inputs, budget, history)
+}
+
+pub fn run_stations(states: &mut [Machine], budget: u64, allowance: u64, stations: &mut [Station<u64>; STATIONS]) -> Result<Taken, No> {
+    run_stations_in(states, budget, allowance, stations)
 }

@@ -119,6 +119,17 @@ pub fn bare(g: &mut Rng, rule: &Rule, n: usize) -> Vec<Line> {
     check_bare_in::<u64>(&rule.words_in(), &instruction_words(&lines)).expect("a generated script passes").1
 }
 
+/// A bare script made to come to an end: what branches goes forwards, and the last line halts, or goes to line 0 if that reads an input.
+pub fn ending(g: &mut Rng, mut bare: Vec<Line>) -> Vec<Line> {
+    let last = bare.len() - 1;
+    for (i, l) in bare[..last].iter_mut().enumerate().filter(|(_, l)| l.uses_target()) {
+        l.target = g.within(i + 1, last) as u16;
+    }
+    let reads = last > 0 && bare[0].op == 4;
+    bare[last] = Line::new(if reads { 7 } else { 0 }, 0, 0, 0);
+    bare
+}
+
 pub fn inputs(g: &mut Rng) -> Vec<u16> {
     let n = g.below(40);
     (0..n).map(|_| if g.chance(1, 50) { TOP } else { g.below(CONSTANTS) as u16 }).collect()

@@ -15,6 +15,7 @@ pub mod random;
 pub mod ready;
 pub mod rule;
 pub mod script;
+pub mod stations;
 pub mod text;
 pub mod unions;
 pub mod weave;

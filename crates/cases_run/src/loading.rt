@@ -1,7 +1,7 @@
 // The words and numbers of a request, taken from its bytes.
 use words::word_at;
 ghost use mathlib.Core.Path.{_≡_};
-ghost use Prim.Native.Nat.{_≤_};
+ghost use Prim.Native.Nat.{_≤_, _+_};
 ghost use lib.ListN.{length};
 
 // The `count` words from `at` on, as far as `out` goes.
@@ -51,7 +51,8 @@ pub(crate) fn load_long(s: &[u8], at: usize, count: usize, out: &mut [u64])
     }
 }
 
-fn long_at(s: &[u8], at: usize) -> u64
+// Two words, at `at`.
+pub(crate) fn long_at(s: &[u8], at: usize) -> u64
     requires { ⌜ at ≤ 4000000 ⌝ }
 {
     long(word_at(s, at), word_at(s, at + 1))
@@ -78,4 +79,12 @@ pub(crate) fn split_words(words: &[u64], out: &mut [u32])
         out[i] = half_at(words, i);
         i += 1;
     }
+}
+
+// How many words of a request so many words of its rule or script are.
+pub(crate) fn size_of(count: usize, long: bool) -> usize
+    requires { ⌜ count ≤ 16384 ⌝ }
+    ensures { λ r. ⌜ r ≤ count + count ⌝ }
+{
+    if long { count + count } else { count }
 }

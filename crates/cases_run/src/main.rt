@@ -3,13 +3,15 @@
 // a number a word; kind 2 about the rule and a script; kinds 3 and 4 run the script, kind 6 weaves it first, and they go on as `runs` says;
 // kinds 5 and 10 weave the script and find facts for it, and go on with the length of the lent output; kinds 7 to 9 are `texts`'. Kinds 11 to 17
 // and 20 are kinds 1 to 7 and 10 of the second form, 21 and 23 move a rule and a script to it, 22 and 24 back, as long as kind 5. Kinds 25
-// and 26 put two scripts together, in the one form and in the other; half of the words are the first's. A 0 in place of a kind is skipped. A
-// count out of the buffers' range ends a block.
+// and 26 put two scripts together, in the one form and in the other; half of the words are the first's. Kinds 27 and 28 are `fours`'. A 0 in
+// place of a kind is skipped. A count out of the buffers' range ends a block.
 use crate::finding::answer_finding;
 use crate::finding::answer_finding64;
+use crate::fours::request_stations;
 use crate::loading::load_long;
 use crate::loading::load_numbers;
 use crate::loading::load_words;
+use crate::loading::size_of;
 use crate::moving::answer_back;
 use crate::moving::answer_up;
 use crate::pairs::answer_pair;
@@ -29,6 +31,7 @@ ghost use Prim.Native.Nat.{_<_, _≤_, _+_};
 
 mod digests;
 mod finding;
+mod fours;
 mod loading;
 mod moving;
 mod pairs;
@@ -172,14 +175,6 @@ fn has_long_words(kind: u32) -> bool {
     (12 <= kind) & (kind <= 14) | (kind == 22) | (kind == 24) | (kind == 26)
 }
 
-// How many words of a request so many words of its rule or script are.
-fn size_of(count: usize, long: bool) -> usize
-    requires { ⌜ count ≤ 16384 ⌝ }
-    ensures { λ r. ⌜ r ≤ count + count ⌝ }
-{
-    if long { count + count } else { count }
-}
-
 // The request that starts at word `at`, and where the next one starts.
 fn request(s: &[u8], at: usize) -> usize
     requires { ⌜ at < 16384 ⌝ }
@@ -191,6 +186,9 @@ fn request(s: &[u8], at: usize) -> usize
     }
     if (7 <= kind) & (kind <= 9) | (kind == 17) {
         return request_text(s, kind, at);
+    }
+    if (kind == 27) | (kind == 28) {
+        return request_stations(s, kind, at);
     }
     let nodes = word_at(s, at + 1) as usize;
     if 80 < nodes {

@@ -91,6 +91,17 @@ fn step_in(
     m.step(rule, script, inputs, history)
 }
 
+// A machine's state but for its readiness.
+pub(crate) fn print_state(m: Machine, rule: &[u32], rule64: &[u64], is_wide: bool) {
+    let registers = m.registers;
+    print_named(b"line", m.line as u64);
+    print_numbers(b"registers", &registers);
+    print_bits(b"kept", rule, rule64, is_wide, false, m.kept);
+    print_bits(b"work", rule, rule64, is_wide, true, m.work);
+    print_named(b"presentations", m.presentations as u64);
+    print_named(b"reads", m.reads as u64);
+}
+
 // How many states were ready, the next one included; it stops at the largest number.
 fn count_ready(count: u64, ready: bool) -> u64 {
     if ready {
@@ -126,14 +137,8 @@ fn answer_steps(
         m = step_in(m, rule, script, rule64, script64, is_wide, inputs, history);
         ready = count_ready(ready, m.readiness.ready);
     }
-    let registers = m.registers;
     say(b"stepped\n");
-    print_named(b"line", m.line as u64);
-    print_numbers(b"registers", &registers);
-    print_bits(b"kept", rule, rule64, is_wide, false, m.kept);
-    print_bits(b"work", rule, rule64, is_wide, true, m.work);
-    print_named(b"presentations", m.presentations as u64);
-    print_named(b"reads", m.reads as u64);
+    print_state(m, rule, rule64, is_wide);
     print_ready(m.readiness.ready, ready);
     print_numbers(b"history", &history[..]);
 }

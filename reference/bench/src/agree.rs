@@ -5,16 +5,22 @@ use crate::peers::judge::{many_at_once, one_at_a_time};
 use crate::peers::machine::{fresh, run, step};
 use crate::peers::rule::Rule;
 use crate::peers::script::{check_code, check_script, BARE};
+use crate::peers::stations::run_stations;
 use crate::peers::text::read_text;
 use crate::peers::weave::weave;
 use crate::peers::No;
 use compare::face::Face;
-use compare::proved::{holds_readiness, library, BOTH_FORMS};
-use compare::request::Request;
-use compare::requests::request;
+use compare::proved::{holds_readiness, library, BOTH_FORMS, STATIONED};
+use compare::request::{Request, Stationed};
+use compare::requests::{request, stations};
+use reference::stations::Station;
 
 fn numbers<X>(answer: Result<X, No>) -> (u32, u64) {
     answer.map_or_else(|no| (no.number, no.place as u64), |_| (0, 0))
+}
+
+fn lent<W: Set>(Stationed { rule, script, inputs, history }: &mut Stationed<W>) -> Station<'_, W> {
+    Station { rule, script, inputs, history }
 }
 
 fn agree_on<W: Set>(request: Request<W>) {
@@ -88,6 +94,16 @@ fn agree_on<W: Set>(request: Request<W>) {
                 assert!(state == peer_state && history == peer_history);
             }
         }
+        Request::Stations { mut states, budget, allowance, mut stations, .. } => {
+            let mut p = [0; 3];
+            let (mut peer_states, mut peer_stations) = (states.clone(), stations.clone());
+            let result = proved.stations(&mut states, budget, allowance, stations.each_mut().map(lent), &mut p);
+            let peer = run_stations(&mut peer_states, budget, allowance, &mut peer_stations.each_mut().map(lent));
+            let (turns, left) = *peer.as_ref().unwrap_or(&(0, 0));
+            let (number, place) = numbers(peer);
+            assert_eq!((result, p), (number, [place, turns, left]));
+            assert!(states == peer_states && stations == peer_stations);
+        }
         Request::Text { text, mut out, .. } => {
             let mut p = [0; 2];
             let mut peer_out = out.clone();
@@ -101,11 +117,16 @@ fn agree_on<W: Set>(request: Request<W>) {
     }
 }
 
-/// So many requests in the first form, and a fifth as many in the second if the library has it.
+/// So many requests in the first form, and a fifth as many in the second if the library has it; for stations, if it has them, a twentieth
+/// as many in each.
 pub fn agree(requests: u64) {
     (0..requests).for_each(|n| agree_on::<u32>(request(5, n)));
     if BOTH_FORMS {
         (0..requests / 5).for_each(|n| agree_on::<u64>(request(5, n)));
+    }
+    if STATIONED {
+        (0..requests / 20).for_each(|n| agree_on::<u32>(stations(5, n)));
+        (0..requests / 20).for_each(|n| agree_on::<u64>(stations(5, n)));
     }
 }
 

@@ -4,14 +4,15 @@ mod histories;
 mod measure;
 mod peers;
 
-use compare::face::{Face, STATE_NUMBERS, TESTED};
-use compare::proved::{holds_readiness, library, BOTH_FORMS};
+use compare::face::{Face, PRESENTATIONS, STATES_NUMBERS, STATE_NUMBERS, TESTED};
+use compare::proved::{holds_readiness, library, BOTH_FORMS, STATIONED};
 use histories::{random_history, rules_in_second_form, steady_history, Named, RULES};
 use measure::{measure, Row, Table};
 use peers::form::Set;
 use peers::judge::{many_at_once, one_at_a_time};
 use reference::random::Rng;
 use reference::rule::{check_rule_in, Node};
+use reference::stations::{Station, STATIONS};
 use std::hint::black_box;
 
 const STATES: usize = 16_384;
@@ -224,6 +225,73 @@ fn step_row<W: Set>(name: &str, rule: &'static [W], script: &[W]) -> Row {
     Row::new(format!("step that {name}, {STEPS} calls"), "step", STEPS, calls)
 }
 
+/// What four stations of the same rule and script are lent: inputs of their own, and room for all that they present.
+#[derive(Clone)]
+struct Lent<W: Set> {
+    rule: &'static [W],
+    script: Vec<W>,
+    inputs: [Vec<u16>; STATIONS],
+    histories: [Vec<u16>; STATIONS],
+    states: Vec<u64>,
+}
+
+impl<W: Set> Lent<W> {
+    fn new(rule: &'static [W], bare: &[u32]) -> Lent<W> {
+        let mut g = Rng(10);
+        Lent {
+            rule,
+            script: woven(rule, bare),
+            inputs: std::array::from_fn(|_| (0..50_000).map(|_| g.below(2) as u16).collect()),
+            histories: std::array::from_fn(|_| vec![0; 16 * 20_000]),
+            states: vec![0; STATES_NUMBERS],
+        }
+    }
+
+    /// The states, and what is lent for each station besides.
+    fn lend(&mut self) -> (&mut [u64], [Station<'_, W>; STATIONS]) {
+        let mut lent = self.inputs.iter().zip(&mut self.histories);
+        let stations = std::array::from_fn(|_| {
+            let (inputs, history) = lent.next().unwrap();
+            Station { rule: self.rule, script: &self.script, inputs, history }
+        });
+        (&mut self.states, stations)
+    }
+}
+
+/// Four stations that take turns, with more of an allowance than they use: what each does, its rule and its bare script.
+fn stations_rows<W: Set>(runs: Vec<(&str, &'static [W], Vec<u32>)>) -> Vec<Row> {
+    const BUDGET: u64 = 200_000;
+    const ALLOWANCE: u64 = 100_000;
+    let mut rows = vec![];
+    for (name, rule, bare) in runs.into_iter().filter(|_| STATIONED) {
+        let (mut proved, mut n) = (Lent::new(rule, &bare), [0; 3]);
+        let mut peer = proved.clone();
+        let (states, stations) = proved.lend();
+        assert_eq!(library().stations(states, BUDGET, ALLOWANCE, stations, &mut n), 0);
+        let (states, mut stations) = peer.lend();
+        let taken = peers::stations::run_stations(states, BUDGET, ALLOWANCE, &mut stations).ok().expect("accepted scripts");
+        assert!([0, taken.0, taken.1] == n && proved.states == peer.states && proved.histories == peer.histories);
+        assert!(proved.states.chunks(STATE_NUMBERS).all(|state| state[PRESENTATIONS] > 0));
+        let turns = n[1] as usize;
+        rows.push(Row::new(
+            format!("stations that {name}, {turns} turns"),
+            "turn",
+            turns,
+            vec![
+                Box::new(move || {
+                    let (states, stations) = proved.lend();
+                    black_box(library().stations(states, BUDGET, ALLOWANCE, black_box(stations), &mut n));
+                }),
+                Box::new(move || {
+                    let (states, stations) = peer.lend();
+                    black_box(peers::stations::run_stations(states, BUDGET, ALLOWANCE, &mut black_box(stations)).is_ok());
+                }),
+            ],
+        ));
+    }
+    rows
+}
+
 /// A register that no rule here tests.
 const UNTESTED: u32 = 15;
 
@@ -410,6 +478,7 @@ fn first_form() -> Vec<Row> {
     ]));
     rows.push(step_row(reads, r1.1, &woven(r1.1, &tone())));
     rows.push(step_row(shares, r6.1, &woven(r6.1, &masked_tone())));
+    rows.extend(stations_rows(vec![("read and present", r1.1, tone()), ("read and present, with 32 nodes (R4)", r4.1, masked_tone())]));
     for (name, rule) in [r1, r4] {
         rows.push(fresh_row(name, rule));
         rows.extend(kinds_of_steps(name, rule));
@@ -439,6 +508,7 @@ fn second_form(rules: &[Named<u64>; 3]) -> Vec<Row> {
     rows.extend(run_rows(vec![(reads, r1.1, tone()), (long, r7.1, masked_tone())]));
     rows.push(step_row(reads, r1.1, &woven(r1.1, &tone())));
     rows.push(step_row(long, r7.1, &woven(r7.1, &masked_tone())));
+    rows.extend(stations_rows(vec![("read and present, second form, with 64 nodes (R7)", r7.1, masked_tone())]));
     rows.push(fresh_row(r7.0, r7.1));
     rows.extend(kinds_of_steps(r7.0, r7.1));
     // an implies between the full text and one that is a node shorter

@@ -4,8 +4,8 @@ use crate::face::{Face, PRESENTATIONS, READY, REGISTERS, STATE_NUMBERS};
 use crate::faced::Reference;
 use crate::proved::{library, Form};
 use crate::request::Request;
-use crate::requests::{moving, request};
-use reference::judge::states;
+use crate::requests::{moving, request, stations};
+use reference::judge::{first_false_direct, states};
 use reference::rule::{check_rule_in, Rule};
 use std::collections::BTreeMap;
 
@@ -76,6 +76,32 @@ fn defined<W: Form>(rule: &Rule, called: &Request<W>) -> Result<bool, String> {
     Ok(ready)
 }
 
+/// What the proved code has written for four stations that were run is what is promised of them: each history obeys its station's own rule
+/// by the table of kinds, what was presented and what is left are the allowance, and each is ready where the definition says so. Answers
+/// which of them are.
+fn promised<W: Form>(called: &Request<W>) -> Result<Vec<bool>, String> {
+    let Request::Stations { states: words, allowance, stations, numbers, .. } = called else { return Ok(vec![]) };
+    let (mut ready, mut made) = (vec![], 0);
+    for (k, (state, station)) in words.chunks(STATE_NUMBERS).zip(stations).enumerate() {
+        let rule = check_rule_in(&station.rule).map_err(|no| format!("station {k} was run, whose rule fails {}", no.number))?;
+        let presented = states(&station.history[..16 * state[PRESENTATIONS] as usize]);
+        if first_false_direct(&rule, &presented) < presented.len() {
+            return Err(format!("the history of station {k} does not obey its rule"));
+        }
+        let registers = std::array::from_fn(|r| state[REGISTERS + r] as u16);
+        let now = rule.holds_now(&presented, &registers);
+        if state[READY] != now as u64 {
+            return Err(format!("station {k} ready: {}, by the definition {now}", state[READY]));
+        }
+        ready.push(now);
+        made += state[PRESENTATIONS];
+    }
+    if made.checked_add(numbers[2]) != Some(*allowance) {
+        return Err(format!("{made} presented and {} left of {allowance}", numbers[2]));
+    }
+    Ok(ready)
+}
+
 /// One request put to the proved code and to the reference: the first difference, proved first, if there is one.
 pub fn put<W: Form>(asked: &Request<W>, met: &mut Met) -> Result<(), String> {
     let (mut proved, mut reference) = (asked.clone(), asked.clone());
@@ -91,6 +117,11 @@ pub fn put<W: Form>(asked: &Request<W>, met: &mut Met) -> Result<(), String> {
         }
         if let Some(rule) = &started {
             *met.ready.entry((asked.function(), defined(rule, &proved)?)).or_default() += 1;
+        }
+        if result == 0 {
+            for ready in promised(&proved)? {
+                *met.ready.entry((asked.function(), ready)).or_default() += 1;
+            }
         }
     }
     Ok(())
@@ -156,23 +187,25 @@ fn each<W: Form>(
     Ok(())
 }
 
+/// One request of the first form; an eighth of them goes to the second as well.
+fn put_first(n: u64, asked: &Request<u32>, met: &mut Met) -> Result<(), String> {
+    put(asked, met)?;
+    // sixteen of these have each kind of rule and request
+    if n / 16 % 8 == 0 {
+        across(asked, met).map_err(|e| format!("in both forms, {e}"))?;
+    }
+    Ok(())
+}
+
 /// So many requests of a seed in the first form, of which an eighth go to the second as well, a fifteenth as many in the second form, and
-/// a fortieth as many moves each way; the first difference, or what was met.
+/// a fortieth as many moves each way; for stations a sixtieth as many in the first form, of which an eighth go to the second as well, and
+/// half as many in the second. The first difference, or what was met.
 pub fn compare(seed: u64, count: u64) -> Result<Met, String> {
     let mut met = Met::default();
-    each::<u32>(
-        count,
-        |n| request(seed, n),
-        |n, asked| {
-            put(asked, &mut met)?;
-            // sixteen of these have each kind of rule and request
-            if n / 16 % 8 == 0 {
-                across(asked, &mut met).map_err(|e| format!("in both forms, {e}"))?;
-            }
-            Ok(())
-        },
-    )?;
+    each::<u32>(count, |n| request(seed, n), |n, asked| put_first(n, asked, &mut met))?;
     each::<u64>(count / 15, |n| request(seed, n), |_, asked| put(asked, &mut met))?;
+    each::<u32>(count / 60, |n| stations(seed, n), |n, asked| put_first(n, asked, &mut met))?;
+    each::<u64>(count / 120, |n| stations(seed, n), |_, asked| put(asked, &mut met))?;
     each::<u32>(count / 40, |n| moving(seed, n), |_, asked| put(asked, &mut met).and_then(|_| there_and_back(asked, &mut met)))?;
     each::<u64>(count / 40, |n| moving(seed, n), |_, asked| put(asked, &mut met).and_then(|_| there_and_back(asked, &mut met)))?;
     Ok(met)

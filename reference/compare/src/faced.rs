@@ -1,5 +1,5 @@
 //! What `include/guard.h` says of each function, over the reference.
-use crate::face::{Face, READY, REGISTERS, STATE_NUMBERS};
+use crate::face::{Face, READY, REGISTERS, STATES_NUMBERS, STATE_NUMBERS};
 use crate::proved::Form;
 use reference::judge::judge_in;
 use reference::largest::find_facts_in;
@@ -8,6 +8,7 @@ use reference::moves::{move_rule, move_script};
 use reference::ready::{Bits, Readiness};
 use reference::rule::check_rule_in;
 use reference::script::{check_bare_in, check_script_in};
+use reference::stations::{run_stations_in, Station, STATIONS};
 use reference::text::read_text_in;
 use reference::weave::weave_in;
 use reference::No;
@@ -147,6 +148,19 @@ impl<W: Form> Face<W> for Reference {
         let Some(m) = machine(state) else { return TOO_LARGE };
         note_machine(state, &step_stored_in(rule, script, inputs, history, m));
         0
+    }
+
+    fn stations(&self, states: &mut [u64], budget: u64, allowance: u64, mut stations: [Station<W>; STATIONS], numbers: &mut [u64]) -> u32 {
+        answered(numbers, || {
+            // what the states hold before is not read: any machines serve, and words that are not just four states are none
+            let count = if states.len() == STATES_NUMBERS { STATIONS } else { 0 };
+            let mut machines = vec![fresh(&[]); count];
+            let taken = run_stations_in(&mut machines, budget, allowance, &mut stations)?;
+            for (state, m) in states.chunks_exact_mut(STATE_NUMBERS).zip(&machines) {
+                note_machine(state, m);
+            }
+            Ok([0, taken.turns, taken.left])
+        })
     }
 
     fn move_rule(&self, rule: &[W], out: &mut [W::Other], numbers: &mut [u64]) -> u32 {

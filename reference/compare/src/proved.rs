@@ -1,6 +1,7 @@
 //! The functions of `include/guard.h`, on slices.
 use crate::face::{Face, STATE_NUMBERS};
 use reference::form::Word;
+use reference::stations::{Station, STATIONS};
 use std::mem::transmute;
 
 /// A word of a stored form, with the library's functions for that form.
@@ -24,6 +25,17 @@ type WritesOfTwo<X, Y, Z> = unsafe extern "C" fn(*const X, usize, *const Y, usiz
 type Runs<X> = unsafe extern "C" fn(*const X, usize, *const X, usize, *const u16, usize, u64, *mut u16, usize, *mut u64, usize) -> u32;
 type Steps<X> = unsafe extern "C" fn(*const X, usize, *const X, usize, *const u16, usize, *mut u16, usize, *mut u64, usize) -> u32;
 
+/// States, budget and allowance; four rules, four scripts, four lists of inputs, four histories; numbers.
+#[rustfmt::skip]
+type RunsStations<X> = unsafe extern "C" fn(
+    *mut u64, usize, u64, u64,
+    *const X, usize, *const X, usize, *const X, usize, *const X, usize,
+    *const X, usize, *const X, usize, *const X, usize, *const X, usize,
+    *const u16, usize, *const u16, usize, *const u16, usize, *const u16, usize,
+    *mut u16, usize, *mut u16, usize, *mut u16, usize, *mut u16, usize,
+    *mut u64, usize,
+) -> u32;
+
 /// The library's functions for one form.
 #[derive(Clone, Copy)]
 pub struct Library<W: Form> {
@@ -37,6 +49,7 @@ pub struct Library<W: Form> {
     pub run: Function<Runs<W>>,
     pub fresh: Function<Asks<W>>,
     pub step: Function<Steps<W>>,
+    pub stations: Function<RunsStations<W>>,
     pub move_rule: Function<Writes<W, W::Other>>,
     pub move_script: Function<WritesOfTwo<W, W, W::Other>>,
 }
@@ -55,7 +68,8 @@ impl Form for u32 {
     type Other = u64;
     const LIBRARY: Library<u32> = library! {
         text: guard_text, rule: guard_rule, bare: guard_bare, script: guard_script, weave: guard_weave, facts: guard_facts,
-        judge: guard_judge, run: guard_run, fresh: guard_fresh, step: guard_step, move_rule: guard_rule_up, move_script: guard_script_up
+        judge: guard_judge, run: guard_run, fresh: guard_fresh, step: guard_step, stations: guard_stations, move_rule: guard_rule_up,
+        move_script: guard_script_up
     };
 }
 
@@ -63,13 +77,16 @@ impl Form for u64 {
     type Other = u32;
     const LIBRARY: Library<u64> = library! {
         text: guard_text64, rule: guard_rule64, bare: guard_bare64, script: guard_script64, weave: guard_weave64, facts: guard_facts64,
-        judge: guard_judge64, run: guard_run64, fresh: guard_fresh64, step: guard_step64, move_rule: guard_rule_back,
-        move_script: guard_script_back
+        judge: guard_judge64, run: guard_run64, fresh: guard_fresh64, step: guard_step64, stations: guard_stations64,
+        move_rule: guard_rule_back, move_script: guard_script_back
     };
 }
 
 /// Whether the library has the functions of the second form and the moves.
 pub const BOTH_FORMS: bool = cfg!(not(first_form_alone));
+
+/// Whether the library has the functions for stations: one from before 2026-10, which the benchmark is held against, has not.
+pub const STATIONED: bool = cfg!(not(without_stations));
 
 /// Whether the library's states hold if a presentation would keep the rule: one from before 2026-08, which the benchmark is held against, has
 /// shorter states.
@@ -86,6 +103,9 @@ std::arch::global_asm!(
     ".endr",
     "ud2",
 );
+
+#[cfg(without_stations)]
+std::arch::global_asm!(".globl guard_stations", ".globl guard_stations64", "guard_stations:", "guard_stations64:", "ud2");
 
 /// The library's functions for a form that is told by the words.
 pub fn library<W: Form>() -> Library<W> {
@@ -139,6 +159,26 @@ impl<W: Form> Face<W> for Library<W> {
         let (r, nodes, s, words) = (rule.as_ptr(), rule.len(), script.as_ptr(), script.len());
         let (i, count, h, space) = (inputs.as_ptr(), inputs.len(), history.as_mut_ptr(), history.len());
         unsafe { (self.step.call)(r, nodes, s, words, i, count, h, space, state.as_mut_ptr(), state.len()) }
+    }
+
+    fn stations(&self, states: &mut [u64], budget: u64, allowance: u64, stations: [Station<W>; STATIONS], numbers: &mut [u64]) -> u32 {
+        let [a, b, c, d] = stations;
+        #[rustfmt::skip]
+        let result = unsafe {
+            (self.stations.call)(
+                states.as_mut_ptr(), states.len(), budget, allowance,
+                a.rule.as_ptr(), a.rule.len(), b.rule.as_ptr(), b.rule.len(),
+                c.rule.as_ptr(), c.rule.len(), d.rule.as_ptr(), d.rule.len(),
+                a.script.as_ptr(), a.script.len(), b.script.as_ptr(), b.script.len(),
+                c.script.as_ptr(), c.script.len(), d.script.as_ptr(), d.script.len(),
+                a.inputs.as_ptr(), a.inputs.len(), b.inputs.as_ptr(), b.inputs.len(),
+                c.inputs.as_ptr(), c.inputs.len(), d.inputs.as_ptr(), d.inputs.len(),
+                a.history.as_mut_ptr(), a.history.len(), b.history.as_mut_ptr(), b.history.len(),
+                c.history.as_mut_ptr(), c.history.len(), d.history.as_mut_ptr(), d.history.len(),
+                numbers.as_mut_ptr(), numbers.len(),
+            )
+        };
+        result
     }
 
     fn move_rule(&self, rule: &[W], out: &mut [W::Other], numbers: &mut [u64]) -> u32 {

@@ -4,7 +4,17 @@ use crate::lent::Lent;
 use crate::proved::Form;
 use reference::form::Word;
 use reference::rule::Node;
+use reference::stations::{Station, STATIONS};
 use Request::*;
+
+/// What is lent for one of four stations, besides its state.
+#[derive(Clone, Debug, PartialEq)]
+pub struct Stationed<W: Form> {
+    pub rule: Vec<W>,
+    pub script: Vec<W>,
+    pub inputs: Vec<u16>,
+    pub history: Lent<u16>,
+}
 
 /// A call of a function for one of the stored forms; of steps so many calls, one after the other. What is lent to be written holds these
 /// numbers before the call.
@@ -20,6 +30,7 @@ pub enum Request<W: Form> {
     Run { rule: Vec<W>, script: Vec<W>, inputs: Vec<u16>, budget: u64, history: Lent<u16>, numbers: Lent<u64> },
     Fresh { rule: Vec<W>, state: Lent<u64> },
     Steps { rule: Vec<W>, script: Vec<W>, inputs: Vec<u16>, history: Lent<u16>, state: Lent<u64>, count: usize },
+    Stations { states: Lent<u64>, budget: u64, allowance: u64, stations: [Stationed<W>; STATIONS], numbers: Lent<u64> },
     MoveRule { rule: Vec<W>, out: Lent<W::Other>, numbers: Lent<u64> },
     MoveScript { rule: Vec<W>, script: Vec<W>, out: Lent<W::Other>, numbers: Lent<u64> },
 }
@@ -39,6 +50,7 @@ impl<W: Form> Request<W> {
             Run { .. } => library.run.name,
             Fresh { .. } => library.fresh.name,
             Steps { .. } => library.step.name,
+            Stations { .. } => library.stations.name,
             MoveRule { .. } => library.move_rule.name,
             MoveScript { .. } => library.move_script.name,
         }
@@ -68,6 +80,10 @@ impl<W: Form> Request<W> {
             Run { rule, script, inputs, budget, history, numbers } => face.run(rule, script, inputs, *budget, history, numbers),
             Fresh { rule, state } => face.fresh(rule, state),
             Steps { rule, script, inputs, history, state, .. } => face.step(rule, script, inputs, history, state),
+            Stations { states, budget, allowance, stations, numbers } => {
+                let lent = stations.each_mut().map(|Stationed { rule, script, inputs, history }| Station { rule, script, inputs, history });
+                face.stations(states, *budget, *allowance, lent, numbers)
+            }
             MoveRule { rule, out, numbers } => face.move_rule(rule, out, numbers),
             MoveScript { rule, script, out, numbers } => face.move_script(rule, script, out, numbers),
         }
@@ -87,6 +103,14 @@ impl<W: Form> Request<W> {
             Run { history, numbers, .. } => vec![of("numbers", numbers), of("history", history)],
             Fresh { state, .. } => vec![of("state", state)],
             Steps { history, state, .. } => vec![of("state", state), of("history", history)],
+            Stations { states, stations: [a, b, c, d], numbers, .. } => vec![
+                of("numbers", numbers),
+                of("states", states),
+                of("history of station 0", &a.history),
+                of("history of station 1", &b.history),
+                of("history of station 2", &c.history),
+                of("history of station 3", &d.history),
+            ],
         }
     }
 
@@ -127,6 +151,7 @@ impl Request<u32> {
             {
                 return None
             }
+            Stations { stations, .. } if stations.iter().any(|station| (33..=64).contains(&station.rule.len())) => return None,
             Fresh { rule, .. } | Steps { rule, .. } if rule.len() > 32 => return None,
             Rule { rule, numbers } => Rule { rule: of_rule(&rule), numbers },
             Bare { rule, script, numbers } => Bare { rule: of_rule(&rule), script, numbers },
@@ -140,6 +165,15 @@ impl Request<u32> {
             Fresh { rule, state } => Fresh { rule: of_rule(&rule), state },
             Steps { rule, script, inputs, history, state, count } => {
                 Steps { rule: of_rule(&rule), script: of_lines(&script), inputs, history, state, count }
+            }
+            Stations { states, budget, allowance, stations, numbers } => {
+                let same = |Stationed { rule, script, inputs, history }: Stationed<u32>| Stationed {
+                    rule: of_rule(&rule),
+                    script: of_lines(&script),
+                    inputs,
+                    history,
+                };
+                Stations { states, budget, allowance, stations: stations.map(same), numbers }
             }
             MoveRule { .. } | MoveScript { .. } => return None,
         };

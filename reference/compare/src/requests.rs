@@ -1,19 +1,20 @@
 //! Random requests: what passes every question, what is spoiled bit by bit, several faults at once, lengths one short and one
 //! long.
-use crate::face::{Face, KEPT, NEXT_PRIORS, PRIORS, READY, REGISTERS, STATE_NUMBERS, TESTED, WORK};
+use crate::face::{Face, KEPT, NEXT_PRIORS, PRIORS, READY, REGISTERS, STATES_NUMBERS, STATE_NUMBERS, TESTED, WORK};
 use crate::faced::Reference;
 use crate::lent::Lent;
 use crate::proved::Form;
-use crate::request::Request;
+use crate::request::{Request, Stationed};
 use crate::{guards, texts};
 use reference::facts::{bit, close, A, B, C, F, M, T, W};
 use reference::form::Word;
 use reference::generate;
 use reference::judge::{first_priors, next_priors, values_now};
-use reference::largest::note_largest;
+use reference::largest::{find_facts_in, note_largest};
 use reference::random::Rng;
 use reference::rule::{check_rule_in, Node, Rule};
-use reference::script::{encode_lines_in, instruction_words, Line};
+use reference::script::{check_script_in, encode_lines_in, instruction_words, Line};
+use reference::stations::STATIONS;
 use reference::text::read_text_in;
 use reference::weave::weave_lines;
 
@@ -665,6 +666,114 @@ pub fn moving<W: Form>(seed: u64, n: u64) -> Request<W> {
     let script = annotated(g, &table, 60);
     let out = room(g, script.len());
     Request::MoveScript { rule, script, out, numbers: numbers(g, 2) }
+}
+
+/// What the four stations of a request have in common.
+struct Common {
+    /// Are some of them to fail some question?
+    wrong: bool,
+    /// Would each of them keep its rule, were it to present at once? Then they present more often.
+    willing: bool,
+    /// The most lines of a bare script that comes to an end; none for scripts that need not.
+    ending: Option<usize>,
+}
+
+/// A rule and an annotated script that pass every question: woven; a guard made by hand; or lines at random with the most facts noted.
+fn accepted<W: Form>(g: &mut Rng, common: &Common) -> (Vec<W>, Vec<W>) {
+    loop {
+        let again = g.chance(1, 2);
+        let (table, rule) = rule::<W>(g, again, 0);
+        if common.willing && !table.holds_now(&[], &[0; 16]) {
+            continue;
+        }
+        let script = match (g.below(6), common.ending) {
+            (0, _) => {
+                let instructions = instruction_words(&guards::by_hand(g, &table));
+                let mut out = vec![W::from(0); 8 * instructions.len()];
+                // where no facts serve, it is refused below
+                find_facts_in(&rule, &instructions, &mut out).map_or(vec![], |_| out)
+            }
+            (1..=4, Some(most)) => {
+                let n = g.within(1, most);
+                let mut bare = generate::bare(g, &table, n);
+                if n > 1 && g.chance(1, 2) {
+                    let at = if common.willing { 0 } else { g.below(n - 1) };
+                    bare[at] = Line::new(8, 0, 0, 0);
+                }
+                encode_lines_in(&weave_lines(&table, &generate::ending(g, bare)).0)
+            }
+            _ => annotated(g, &table, 0),
+        };
+        if check_script_in(&rule, &script).is_ok() {
+            return (rule, script);
+        }
+    }
+}
+
+/// A station that passes every question, or, if some are to be wrong, often one that fails one of 1 to 11, or 15.
+fn station<W: Form>(g: &mut Rng, common: &Common) -> Stationed<W> {
+    let (rule, script) = match g.below(24) {
+        0..=7 if common.wrong => {
+            let (again, spoiled) = (g.chance(1, 2), g.pick(&[0, 0, 100]));
+            let (table, rule) = rule(g, again, spoiled);
+            let script = annotated(g, &table, 80);
+            (rule, script)
+        }
+        // a last line that leads past the end
+        8 if common.wrong => {
+            let (rule, mut script) = accepted(g, common);
+            let last = script.len() - 8;
+            script[last] = instruction(&Line::new(1, 1, 1, 0));
+            (rule, script)
+        }
+        _ => accepted(g, common),
+    };
+    let mut inputs = inputs(g, if common.wrong { 50 } else { 0 });
+    if common.ending.is_some() {
+        inputs.truncate(g.below(8));
+    }
+    let length = 16 * g.below(6) + g.pick(&[0, 0, 0, 1, 15]);
+    Stationed { rule, script, inputs, history: (0..length).map(|_| g.next() as u16).collect::<Vec<_>>().into() }
+}
+
+/// How many turns: few, or hundreds, rarely thousands; or about as many as there are until four passes end them, or any number beyond.
+fn turns<W: Form>(g: &mut Rng, allowance: u64, stations: &[Stationed<W>; STATIONS]) -> u64 {
+    match g.below(32) {
+        0..=2 => g.below(6) as u64,
+        3..=12 => g.below(60) as u64,
+        13..=19 => g.below(300) as u64,
+        20 => g.below(3000) as u64,
+        _ => {
+            const MANY: u64 = 400;
+            let (stations, states) = (stations.clone(), vec![0; STATES_NUMBERS].into());
+            let mut asked = Request::Stations { states, budget: MANY, allowance, stations, numbers: vec![0; 3].into() };
+            asked.put(&Reference);
+            let Request::Stations { numbers, .. } = asked else { unreachable!("it is for stations") };
+            let ended = numbers[1];
+            if ended == MANY {
+                return ended;
+            }
+            let any = g.next();
+            g.pick(&[ended, ended, ended.saturating_sub(1), ended + 1, ended.max(any), u64::MAX])
+        }
+    }
+}
+
+/// Request number `n` of a seed for four stations.
+pub fn stations<W: Form>(seed: u64, n: u64) -> Request<W> {
+    let g = &mut numbered(seed, n);
+    let ending = g.chance(1, 2).then(|| g.pick(&[1, 2, 6, 6, 6, 8]));
+    let common = Common { wrong: g.chance(1, 2), willing: g.chance(1, 2), ending };
+    let stations = std::array::from_fn(|_| station(g, &common));
+    let allowance = match g.below(12) {
+        0 => 0,
+        1 => g.next(),
+        2 => u64::MAX,
+        _ => g.below(10) as u64,
+    };
+    let budget = turns(g, allowance, &stations);
+    let length = if g.chance(1, 8) { g.pick(&[0, 25, 75, 99, 101, 125]) } else { STATES_NUMBERS };
+    Request::Stations { states: any_words(g, length), budget, allowance, stations, numbers: numbers(g, 3) }
 }
 
 /// What request number `n` of a seed is made from.

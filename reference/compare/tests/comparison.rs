@@ -1,19 +1,20 @@
 //! The comparison: every function of `include/guard.h` and the reference agree on random requests.
 //! GUARD_SEED and GUARD_REQUESTS set the seed and the number of requests in the first form; a request for steps makes several calls.
 use compare::compare::{compare, put, ready_by_definition, started, Met};
-use compare::face::{Face, KEPT, LINE, PRIORS, READY, REGISTERS, STATE_NUMBERS, TESTED};
+use compare::face::{Face, KEPT, LINE, PRESENTATIONS, PRIORS, READY, REGISTERS, STATES_NUMBERS, STATE_NUMBERS, TESTED};
 use compare::faced::Reference;
 use compare::lent::Lent;
 use compare::proved::{library, Form};
-use compare::request::Request;
-use compare::requests::{moving, request};
+use compare::request::{Request, Stationed};
+use compare::requests::{moving, request, stations};
 use reference::facts::{all_facts, bit, first_facts, pass, with_planted_fault, Facts, Fault, A, B, C, M, T, W};
 use reference::judge::{first_priors, judge, next_priors, states, values_now};
 use reference::largest::find_facts;
 use reference::rule::{check_rule, Node, Rule};
-use reference::script::{check_bare, check_instructions, check_script, Line};
+use reference::script::{check_bare, check_instructions, check_script, check_script_in, Line};
+use reference::stations::STATIONS;
 use reference::weave::weave;
-use reference::No;
+use reference::{No, TOP};
 use std::cmp::Ordering;
 use std::collections::{BTreeMap, BTreeSet};
 use std::env;
@@ -43,7 +44,7 @@ fn tell(met: &Met) {
 }
 
 /// The questions that each function puts, by the numbers that it can hand back besides 99.
-const QUESTIONS: [(&[&str], RangeInclusive<u32>, &[u32]); 14] = [
+const QUESTIONS: [(&[&str], RangeInclusive<u32>, &[u32]); 15] = [
     (&["guard_text", "guard_text64"], 0..=0, &[13, 16, 17, 18]),
     (&["guard_rule", "guard_rule64"], 0..=4, &[]),
     (&["guard_bare", "guard_bare64"], 0..=7, &[]),
@@ -54,6 +55,7 @@ const QUESTIONS: [(&[&str], RangeInclusive<u32>, &[u32]); 14] = [
     (&["guard_run", "guard_run64"], 0..=11, &[15]),
     (&["guard_fresh", "guard_fresh64"], 0..=0, &[]),
     (&["guard_step", "guard_step64"], 0..=0, &[98]),
+    (&["guard_stations", "guard_stations64"], 0..=11, &[15, 21]),
     (&["guard_rule_up"], 0..=4, &[13]),
     (&["guard_rule_back"], 0..=4, &[13, 20]),
     (&["guard_script_up"], 0..=8, &[13]),
@@ -79,7 +81,8 @@ fn proved_and_reference_agree() {
     assert_eq!(handed_back, wanted, "each number that a function can hand back, and no other");
     let stops: Vec<(&str, u64)> = ["guard_run", "guard_run64"].into_iter().flat_map(|name| (0..=4).map(move |stop| (name, stop))).collect();
     assert_eq!(met.stops.into_keys().collect::<Vec<_>>(), stops);
-    let defined = ["guard_fresh", "guard_fresh64", "guard_step", "guard_step64"].into_iter().flat_map(|name| [(name, false), (name, true)]);
+    let with_states = ["guard_fresh", "guard_fresh64", "guard_stations", "guard_stations64", "guard_step", "guard_step64"];
+    let defined = with_states.into_iter().flat_map(|name| [(name, false), (name, true)]);
     assert_eq!(met.ready.into_keys().collect::<Vec<_>>(), defined.collect::<Vec<_>>());
     // in both forms: the functions of the first, and the moves
     let asked: BTreeSet<&str> = QUESTIONS.iter().map(|(functions, ..)| functions[0]).collect();
@@ -92,8 +95,8 @@ fn noticed<W: Form>(fault: Fault, make: fn(u64, u64) -> Request<W>) -> u64 {
         let asked = make(SEED, n);
         with_planted_fault(fault, || put(&asked, &mut Met::default())).is_err()
     };
-    // as many as there are moves each way, the fewest of all kinds of requests
-    (0..REQUESTS / 40).find(differs).unwrap_or_else(|| panic!("{fault:?} is not noticed"))
+    // as many as there are for stations in the second form, the fewest of all kinds of requests
+    (0..REQUESTS / 120).find(differs).unwrap_or_else(|| panic!("{fault:?} is not noticed"))
 }
 
 /// One rule of the reference made wrong: the comparison notices, in either form.
@@ -138,6 +141,17 @@ fn planted_faults_are_noticed() {
     }
     for fault in [Fault::FiveBits, Fault::HalfOfFacts, Fault::OutputFirst, Fault::MovesAcceptedAlone, Fault::TwentyFirst] {
         println!("{fault:?}: move {} back", noticed(fault, moving::<u64>));
+    }
+    for fault in [
+        Fault::PassTakes,
+        Fault::PassIsNoTurn,
+        Fault::LastHasNoTurn,
+        Fault::InputsFirst,
+        Fault::PlaceIsTheLine,
+        Fault::ThreePassesEnd,
+        Fault::PassesAddUp,
+    ] {
+        println!("{fault:?}: stations {}, in the second form {}", noticed(fault, stations::<u32>), noticed(fault, stations::<u64>));
     }
     compare(SEED, 2_000).expect("without them there is no difference");
 }
@@ -681,6 +695,133 @@ fn readiness_meets_its_cases() {
     readiness_meets_its_cases_in::<u64>(60_000, 31);
 }
 
+type Cases = BTreeMap<String, u32>;
+
+fn count(met: &mut Cases, name: &str, holds: bool) {
+    if holds {
+        *met.entry(name.into()).or_default() += 1;
+    }
+}
+
+/// What refused stations meet: of each the number that its rule and script give, if they fail, and whether an input is too large.
+fn refusal_met<W: Form>(met: &mut Cases, stations: &[Stationed<W>; STATIONS], number: u32, place: usize) {
+    let of_scripts = stations.each_ref().map(|lent| check_script_in(&lent.rule, &lent.script).err());
+    let of_inputs = stations.each_ref().map(|lent| lent.inputs.iter().position(|&x| x > TOP));
+    count(met, &format!("{number} of station {place}"), true);
+    let after = || of_scripts[place + 1..].iter().flatten();
+    if number < 15 {
+        let within = of_scripts[place].expect("it fails").place;
+        count(met, "a number above that of a later station", after().any(|no| no.number < number));
+        count(met, "a number below that of a later station", after().any(|no| no.number > number));
+        count(met, "a script's number, and 15 of the same station", of_inputs[place].is_some());
+        count(met, "a script's number, and 15 of a lower station", of_inputs[..place].iter().any(Option::is_some));
+        count(met, "a line or node that is not the station's number", within != place);
+    } else {
+        count(met, "15, and 15 of a later station", of_inputs[place + 1..].iter().any(Option::is_some));
+        count(met, "an input whose position is not the station's number", of_inputs[place] != Some(place));
+    }
+}
+
+/// What the turns of four stations meet that were run, and how they end. The turns are made here one by one, by steps of the reference.
+fn turns_met<W: Form>(met: &mut Cases, budget: u64, allowance: u64, stations: &mut [Stationed<W>; STATIONS]) -> (u64, u64) {
+    let mut states = stations.each_ref().map(|lent| {
+        let mut state = [0; STATE_NUMBERS];
+        Reference.fresh(&lent.rule, &mut state);
+        state
+    });
+    let (mut turn, mut left, mut passes, mut waited) = (0, allowance, 0, None);
+    while turn < budget && passes < 4 {
+        let k = (turn % 4) as usize;
+        let (Stationed { rule, script, inputs, history }, state) = (&mut stations[k], &mut states[k]);
+        let (before, at) = (*state, state[LINE] as usize);
+        let line = Line::decode_annotated_in(&script[8 * at..]);
+        let presents = line.op == 8;
+        let has_room = 16 * (state[PRESENTATIONS] as usize + 1) <= history.len();
+        let waits = presents && left == 0;
+        if !waits {
+            Reference.step(rule, script, inputs, history, state);
+        }
+        // a line that leads to itself may change nothing, and is a step all the same
+        let passed = *state == before && !line.follows(at).contains(&at);
+        count(met, "a present waits", waits && has_room);
+        count(met, "a present finds the history full, and nothing is left", waits && !has_room);
+        count(met, "a present finds the history full, and some is left", presents && !waits && passed);
+        count(met, "an input when none is left", line.op == 4 && passed);
+        count(met, "a halt", line.op == 0);
+        count(met, "a step after three passes", !passed && passes == 3);
+        count(met, "a step after one or two passes", !passed && (1..3).contains(&passes));
+        count(met, "a step of another after one has waited", !passed && waited.is_some_and(|other| other != k));
+        count(met, "a presentation takes the last", !passed && presents && left == 1);
+        left -= (!passed && presents) as u64;
+        passes = if passed { passes + 1 } else { 0 };
+        waited = if waits && has_room { Some(k) } else { waited };
+        turn += 1;
+    }
+    let made = states.map(|state| state[PRESENTATIONS]);
+    count(met, "no budget", budget == 0);
+    count(met, "no allowance", allowance == 0 && turn > 0);
+    count(met, "some left where four passes end it", passes == 4 && left > 0 && left < allowance);
+    count(met, "an allowance used up exactly", left == 0 && allowance > 0 && waited.is_none());
+    count(met, "waiting to the end", left == 0 && waited.is_some() && passes == 4);
+    count(met, "each of the four presents", made.iter().all(|&n| n > 0));
+    count(met, "no step at all", turn == 4 && passes == 4);
+    count(met, "ended by the budget", passes < 4);
+    count(met, "ended by both", passes == 4 && turn == budget);
+    count(met, "ended by four passes, with a budget of 64 bits", passes == 4 && budget > u32::MAX.into());
+    if passes == 4 {
+        count(met, &format!("four passes that begin with station {}", turn % 4), true);
+    }
+    count(met, "a station of more than 32 nodes presents", (0..4).any(|k| stations[k].rule.len() > 32 && made[k] > 0));
+    (turn, left)
+}
+
+/// What a request for stations meets.
+fn stations_met<W: Form>(met: &mut Cases, asked: Request<W>) {
+    let mut called = asked.clone();
+    let result = called.put(&Reference);
+    let (Request::Stations { states, budget, allowance, mut stations, .. }, Request::Stations { numbers, .. }) = (asked, called) else {
+        unreachable!("it is for stations")
+    };
+    let fails = || stations.iter().any(|lent| check_script_in(&lent.rule, &lent.script).is_err());
+    match result {
+        99 => {
+            count(met, &format!("99 for {} words", numbers.len()), true);
+            count(met, "99 where 21 is due too", states.len() != STATES_NUMBERS);
+        }
+        21 => {
+            count(met, &format!("21 for {} words", states.len()), true);
+            count(met, "21 where a rule or script fails too", fails());
+        }
+        0 => {
+            let (turns, left) = turns_met(met, budget, allowance, &mut stations);
+            assert_eq!(numbers[..3], [0, turns, left]);
+        }
+        _ => refusal_met(met, &stations, result, numbers[0] as usize),
+    }
+}
+
+/// The requests for stations meet each refusal of each station and each way in which turns go and end.
+fn stations_meet_their_cases_in<W: Form>(requests: u64, cases: usize) {
+    let mut met = Cases::new();
+    for n in 0..requests {
+        stations_met(&mut met, stations::<W>(SEED, n));
+    }
+    println!("{met:#?}");
+    assert!(met.len() == cases && met.values().all(|&n| n >= 5), "{} {met:?}", met.len());
+}
+
+#[test]
+fn stations_meet_their_cases() {
+    stations_meet_their_cases_in::<u32>(REQUESTS / 120, 89);
+    stations_meet_their_cases_in::<u64>(REQUESTS / 120, 90);
+}
+
+/// Four stations to which the same is lent, so many words of states, and these numbers.
+fn of_stations<W: Form>(states: usize, station: Stationed<W>, numbers: Lent<u64>) -> Request<W> {
+    let (states, stations) = (vec![4; states].into(), std::array::from_fn(|_| station.clone()));
+    Request::Stations { states, budget: 1000, allowance: 9, stations, numbers }
+}
+
 /// Every length of lent numbers, from none to two more than are needed, for answers of each kind.
 fn lent_lengths_in<W: Form>() {
     let (test, since) = (|register| Node::new(1, register, 1, 0, 0), Node::new(4, 0, 0, 0, 1));
@@ -692,6 +833,12 @@ fn lent_lengths_in<W: Form>() {
     let stripped: Vec<u32> = woven.chunks(8).map(|line| Line::decode_annotated_in(line).word()).collect();
     // the present before its guard
     let lost = [&[8 << 28], &stripped[1..]].concat();
+    // every length of lent states
+    for length in 0..=STATES_NUMBERS + STATE_NUMBERS + 1 {
+        let station = Stationed { rule: rule.clone(), script: woven.clone(), inputs: inputs.clone(), history: vec![5; 33].into() };
+        let asked = of_stations(length, station, vec![9; 3].into());
+        put(&asked, &mut Met::default()).unwrap_or_else(|e| panic!("{e}: {asked:x?}"));
+    }
     for script in [&woven[..], &woven[..127], &[]] {
         for length in 0..=28 {
             let numbers = || Lent::from((100..100 + length).collect::<Vec<u64>>());
@@ -700,6 +847,7 @@ fn lent_lengths_in<W: Form>() {
                 let history = || vec![5; space];
                 let out = || Lent::from(vec![W::from(6); room]);
                 let moved = || Lent::from(vec![W::Other::from(6); room]);
+                let station = || Stationed { rule: rule(), script: script(), inputs: inputs(), history: history().into() };
                 for asked in [
                     Request::Rule { rule: rule(), numbers: numbers() },
                     Request::Bare { rule: rule(), script: bare.clone(), numbers: numbers() },
@@ -725,6 +873,8 @@ fn lent_lengths_in<W: Form>() {
                         state: numbers(),
                         count: 3,
                     },
+                    of_stations(STATES_NUMBERS, station(), numbers()),
+                    of_stations(length as usize, station(), numbers()),
                     Request::Text { text: b"r1=1 since r2=1".into(), out: out(), numbers: numbers() },
                     Request::Text { text: b"r1=1 since".into(), out: out(), numbers: numbers() },
                     Request::MoveRule { rule: rule(), out: moved(), numbers: numbers() },

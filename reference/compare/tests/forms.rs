@@ -1,11 +1,11 @@
 //! The two stored forms and the moves between them: every count of nodes, every bit of a node and of a line, every operand, fact and named
 //! node, and what the random requests meet of these.
 use compare::compare::{across, put, there_and_back, Met};
-use compare::face::{KEPT, NEXT_PRIORS, PRIORS, READY, STATE_NUMBERS, TESTED, WORK};
+use compare::face::{KEPT, NEXT_PRIORS, PRIORS, READY, STATES_NUMBERS, STATE_NUMBERS, TESTED, WORK};
 use compare::faced::Reference;
 use compare::lent::Lent;
 use compare::proved::Form;
-use compare::request::Request;
+use compare::request::{Request, Stationed};
 use compare::requests::{moving, request};
 use reference::facts::{all_facts, bit, Facts};
 use reference::form::Word;
@@ -82,14 +82,28 @@ fn writes_and_presents() -> [Line; 4] {
     [Line::new(1, 1, 1, 0), Line::new(8, 0, 0, 0), Line::new(14, 1, 1, 0), Line::new(8, 0, 0, 0)]
 }
 
+/// A station that passes every question and counts.
+fn counting<W: Form>() -> Stationed<W> {
+    let lines = [Line::new(3, 1, 1, 0), Line::new(7, 0, 0, 0)];
+    Stationed { rule: encoded(&[TEST]), script: encode_lines_in(&lines), inputs: vec![], history: vec![9; 16].into() }
+}
+
 /// Every function that takes an annotated script.
 fn of_script<W: Form>(rule: &[W], script: &[W]) -> Vec<Request<W>> {
     let (rule, script) = (|| rule.to_vec(), || script.to_vec());
     let (inputs, history, state) = (vec![1; 9], || vec![9; 50].into(), odd_state().into());
+    let station = Stationed { rule: rule(), script: script(), inputs: inputs.clone(), history: history() };
     vec![
         Request::Script { rule: rule(), script: script(), numbers: numbers(1) },
         Request::Run { rule: rule(), script: script(), inputs: inputs.clone(), budget: 99, history: history(), numbers: numbers(22) },
         Request::Steps { rule: rule(), script: script(), inputs, history: history(), state, count: 2 },
+        Request::Stations {
+            states: numbers(STATES_NUMBERS),
+            budget: 99,
+            allowance: 3,
+            stations: [counting(), counting(), station, counting()],
+            numbers: numbers(3),
+        },
         Request::MoveScript { rule: rule(), script: script(), out: room(script().len()), numbers: numbers(2) },
     ]
 }
@@ -400,7 +414,7 @@ fn lines_met(rule: &[u64], script: &[u64]) -> Vec<String> {
 /// The rule of a request that is asked of one.
 fn rule_of<W: Form>(asked: &Request<W>) -> Option<&[W]> {
     match asked {
-        Request::Text { .. } => None,
+        Request::Text { .. } | Request::Stations { .. } => None,
         Request::Rule { rule, .. }
         | Request::Bare { rule, .. }
         | Request::Script { rule, .. }

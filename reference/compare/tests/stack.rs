@@ -1,17 +1,17 @@
 //! How much stack each function of `include/guard.h` takes: it is called on a painted stack, with rules and texts of the deepest nesting,
 //! full scripts and random requests, and what was painted over is counted. The header says these numbers; they are not proved.
-use compare::face::{Face, STATE_NUMBERS};
+use compare::face::{Face, STATES_NUMBERS, STATE_NUMBERS};
 use compare::proved::{library, Form, Function, Library};
-use compare::request::Request;
-use compare::requests::{moving, request};
+use compare::request::{Request, Stationed};
+use compare::requests::{moving, request, stations};
 use reference::rule::{check_rule_in, Node};
 use reference::script::Line;
 use std::arch::asm;
 use std::collections::BTreeMap;
 use std::hint::black_box;
 
-/// Words of the stack that the functions are called on. Those that find facts keep all facts of a script there, and those that weave call
-/// themselves: they have a larger one.
+/// Words of the stack that the functions are called on. Those that find facts keep all facts of a script there, those that weave call
+/// themselves, and those for stations have four of everything: they have a larger one.
 const WORDS: usize = 4096;
 const LARGE_WORDS: usize = 32_768;
 const REQUESTS: u64 = 20_000;
@@ -70,7 +70,7 @@ fn idle_for<F: Copy>(function: Function<F>) -> Function<F> {
 }
 
 fn idle_library<W: Form>() -> Library<W> {
-    let Library { text, rule, bare, script, weave, facts, judge, run, fresh, step, move_rule, move_script } = library::<W>();
+    let Library { text, rule, bare, script, weave, facts, judge, run, fresh, step, stations, move_rule, move_script } = library::<W>();
     Library {
         text: idle_for(text),
         rule: idle_for(rule),
@@ -82,6 +82,7 @@ fn idle_library<W: Form>() -> Library<W> {
         run: idle_for(run),
         fresh: idle_for(fresh),
         step: idle_for(step),
+        stations: idle_for(stations),
         move_rule: idle_for(move_rule),
         move_script: idle_for(move_script),
     }
@@ -103,7 +104,7 @@ type Most = BTreeMap<&'static str, usize>;
 fn put<W: Form>(stacks: &mut Stacks, most: &mut Most, mut asked: Request<W>) {
     for _ in 0..asked.calls() {
         let bytes = match asked {
-            Request::Facts { .. } | Request::Weave { .. } => taken(&mut stacks.large, &mut asked, library()),
+            Request::Facts { .. } | Request::Weave { .. } | Request::Stations { .. } => taken(&mut stacks.large, &mut asked, library()),
             _ => taken(&mut stacks.small, &mut asked, library()),
         };
         let before = most.entry(asked.function()).or_default();
@@ -156,6 +157,7 @@ fn full_requests<W: Form>(rule: Vec<W>) -> Vec<Request<W>> {
     assert_eq!(library().fresh(&rule(), &mut fresh), 0);
     let (numbers, state) = (|| numbers.to_vec().into(), || fresh.to_vec().into());
     let moved = || vec![W::Other::from(0); 8 * 1024].into();
+    let station = || Stationed { rule: rule(), script: script(), inputs: inputs(), history: history().into() };
     vec![
         Request::Rule { rule: rule(), numbers: numbers() },
         Request::Bare { rule: rule(), script: bare.clone(), numbers: numbers() },
@@ -166,6 +168,13 @@ fn full_requests<W: Form>(rule: Vec<W>) -> Vec<Request<W>> {
         Request::Run { rule: rule(), script: script(), inputs: inputs(), budget: 100_000, history: history().into(), numbers: numbers() },
         Request::Fresh { rule: rule(), state: state() },
         Request::Steps { rule: rule(), script: script(), inputs: inputs(), history: history().into(), state: state(), count: 2_000 },
+        Request::Stations {
+            states: vec![0; STATES_NUMBERS].into(),
+            budget: 100_000,
+            allowance: 1_000,
+            stations: std::array::from_fn(|_| station()),
+            numbers: numbers(),
+        },
         Request::MoveRule { rule: rule(), out: moved(), numbers: numbers() },
         Request::MoveScript { rule: rule(), script: script(), out: moved(), numbers: numbers() },
     ]
@@ -216,6 +225,7 @@ fn measure<W: Form>(stacks: &mut Stacks, most: &mut Most) {
         put(stacks, most, request::<W>(3, n));
         if n % 8 == 0 {
             put(stacks, most, moving::<W>(3, n));
+            put(stacks, most, stations::<W>(3, n));
         }
     }
     println!("and random requests: {most:?}");
@@ -227,7 +237,7 @@ fn stack_is_what_the_header_says() {
     let mut most = Most::new();
     measure::<u32>(&mut stacks, &mut most);
     measure::<u64>(&mut stacks, &mut most);
-    assert_eq!(most.len(), 24);
+    assert_eq!(most.len(), 26);
     // as the header would have it
     for (function, bytes) in &most {
         println!("    {} = {},", stack_of(function), bytes.next_multiple_of(128));

@@ -6,14 +6,14 @@ use super::{numbers_small, No};
 
 #[derive(Clone, Copy, Default)]
 #[repr(align(8))]
-struct Line {
-    op: u8,
+pub(super) struct Line {
+    pub(super) op: u8,
     r: u8,
     c: u16,
     target: u16,
 }
 
-fn decode(w: u32) -> Line {
+pub(super) fn decode(w: u32) -> Line {
     Line { op: (w >> 28) as u8, r: (w >> 24 & 15) as u8, c: (w >> 10 & 0x3fff) as u16, target: (w & 0x3ff) as u16 }
 }
 
@@ -172,27 +172,13 @@ pub fn fresh<W: Set>(rule: &[W], state: &mut [u64]) -> u32 {
     0
 }
 
-/// One step of the machine in `state`, as `guard_step` makes it: 0, 98 or 99.
-pub fn step<W: Set>(rule: &[W], script: &[W], inputs: &[u16], history: &mut [u16], state: &mut [u64]) -> u32 {
-    let Some((counts, rest)) = state.split_first_chunk_mut::<5>() else { return 99 };
-    let Some((registers, rest)) = rest.split_first_chunk_mut::<16>() else { return 99 };
-    let Some([ready, priors, next_priors, tested]) = rest.first_chunk_mut::<4>() else { return 99 };
-    if registers.iter().fold(0, |a, &b| a | b) > 65_535 || *ready > 1 {
-        return 98;
-    }
-    let [line, presentations, read, kept, work] = counts;
-    let Some(stored) = usize::try_from(*line).ok().and_then(|i| script.chunks_exact(8).nth(i)) else { return 0 };
-    let word = stored[0].instruction();
-    let l = decode(word);
-    // question 6 looks at one node, and at the others only where it is no past node
-    let is_number = (l.c as usize) < W::MOST_NODES;
-    let named = rule.get(l.c as usize).filter(|_| is_number).map_or(0, |&w| kind_of(w));
-    let past = W::bit(l.c as usize).only_if(matches!(named, SINCE | WEAK_PREVIOUS));
-    let is_shared = past.is_empty() && matches!(l.op, 9 | 11) && is_number && mentioned_twice(rule, l.c as u64);
-    let shared = W::bit(l.c as usize).only_if(is_shared);
-    if !is_allowed(past, shared, ANNOTATED, word) || stored[0].below() != 0 {
-        return 0;
-    }
+/// The numbers of a state.
+pub(super) type State = [u64; 25];
+
+/// What a line does to a state, if it is not stopped: false where it halts, finds no input or finds the history full.
+#[inline(always)]
+pub(super) fn advance<W: Set>(rule: &[W], l: Line, inputs: &[u16], history: &mut [u16], state: &mut State) -> bool {
+    let [line, presentations, read, kept, work, registers @ .., ready, priors, next_priors, tested] = state;
     let r = l.r as usize & 15;
     let c = l.c as usize;
     let node = 1 << (63 - W::place(c));
@@ -201,7 +187,7 @@ pub fn step<W: Set>(rule: &[W], script: &[W], inputs: &[u16], history: &mut [u16
     // a presentation, or a write of a register that a test reads
     let anew = l.op == 8 || matches!(l.op, 1..=4 | 14) && *tested << r >> 63 == 1;
     *line = match l.op {
-        0 => return 0,
+        0 => return false,
         1 => {
             registers[r] = l.c as u64;
             next
@@ -215,7 +201,7 @@ pub fn step<W: Set>(rule: &[W], script: &[W], inputs: &[u16], history: &mut [u16
             next
         }
         4 => {
-            let Some(&x) = usize::try_from(*read).ok().and_then(|i| inputs.get(i)) else { return 0 };
+            let Some(&x) = usize::try_from(*read).ok().and_then(|i| inputs.get(i)) else { return false };
             registers[r] = x as u64;
             *read += 1;
             next
@@ -225,7 +211,7 @@ pub fn step<W: Set>(rule: &[W], script: &[W], inputs: &[u16], history: &mut [u16
         7 => target,
         8 => {
             let from = presentations.checked_mul(16).and_then(|i| usize::try_from(i).ok());
-            let Some(place) = from.and_then(|i| history.get_mut(i..)).and_then(|h| h.first_chunk_mut::<16>()) else { return 0 };
+            let Some(place) = from.and_then(|i| history.get_mut(i..)).and_then(|h| h.first_chunk_mut::<16>()) else { return false };
             *place = registers.map(|x| x as u16);
             *presentations += 1;
             *priors = *next_priors;
@@ -250,6 +236,28 @@ pub fn step<W: Set>(rule: &[W], script: &[W], inputs: &[u16], history: &mut [u16
     };
     if anew {
         (*ready, *next_priors) = worked_out(rule, registers, *priors);
+    }
+    true
+}
+
+/// One step of the machine in `state`, as `guard_step` makes it: 0, 98 or 99.
+pub fn step<W: Set>(rule: &[W], script: &[W], inputs: &[u16], history: &mut [u16], state: &mut [u64]) -> u32 {
+    let Some(state) = state.first_chunk_mut::<25>() else { return 99 };
+    let [line, _, _, _, _, registers @ .., ready, _, _, _] = state;
+    if registers.iter().fold(0, |a, &b| a | b) > 65_535 || *ready > 1 {
+        return 98;
+    }
+    let Some(stored) = usize::try_from(*line).ok().and_then(|i| script.chunks_exact(8).nth(i)) else { return 0 };
+    let word = stored[0].instruction();
+    let l = decode(word);
+    // question 6 looks at one node, and at the others only where it is no past node
+    let is_number = (l.c as usize) < W::MOST_NODES;
+    let named = rule.get(l.c as usize).filter(|_| is_number).map_or(0, |&w| kind_of(w));
+    let past = W::bit(l.c as usize).only_if(matches!(named, SINCE | WEAK_PREVIOUS));
+    let is_shared = past.is_empty() && matches!(l.op, 9 | 11) && is_number && mentioned_twice(rule, l.c as u64);
+    let shared = W::bit(l.c as usize).only_if(is_shared);
+    if is_allowed(past, shared, ANNOTATED, word) && stored[0].below() == 0 {
+        advance(rule, l, inputs, history, state);
     }
     0
 }

@@ -5,6 +5,7 @@ pub mod judge;
 pub mod machine;
 pub mod rule;
 pub mod script;
+pub mod stations;
 pub mod text;
 pub mod weave;
 

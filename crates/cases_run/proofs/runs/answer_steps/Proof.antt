@@ -7,11 +7,11 @@ use Rattle.cases_run.proofs.runs.answer_steps.Statement.{statement}
 use Rattle.cases_run.proofs.runs.answer_steps.Tie as tie
 
 abbrev Inv-loop : tie.InvT-loop
-Inv-loop rule script rule64 script64 is-wide inputs count history₀ m₀ ready₀ i₀ t13 t14 t15 t16 t17 t18 t19 t20 history m ready i =
-    (i ≤ count) × (length history ≡ length history₀) × (length (m .registers) ≡ 16)
+Inv-loop rule script rule64 script64 is-wide inputs count history₀ m₀ ready₀ i₀ t12 t13 history m ready i =
+    (i ≤ count) × (length history ≡ length history₀)
 
 abbrev μ-loop : tie.MeasureT-loop
-μ-loop rule script rule64 script64 is-wide inputs count history₀ m₀ ready₀ i₀ t13 t14 t15 t16 t17 t18 t19 t20 history m ready i =
+μ-loop rule script rule64 script64 is-wide inputs count history₀ m₀ ready₀ i₀ t12 t13 history m ready i =
     count - i
 
 fresh-in-requires : tie.Need-fresh-in-requires Inv-loop μ-loop
@@ -44,53 +44,17 @@ slice-aggregate-say c = search needs
 say-requires : tie.Need-say-requires Inv-loop μ-loop
 say-requires c κs = search needs
 
-slice-aggregate-print-named : tie.Need-slice-aggregate-print-named Inv-loop μ-loop
-slice-aggregate-print-named c = search needs
-
-print-named-requires : tie.Need-print-named-requires Inv-loop μ-loop
-print-named-requires c κs = search needs
-
-slice-aggregate-print-numbers : tie.Need-slice-aggregate-print-numbers Inv-loop μ-loop
-slice-aggregate-print-numbers c = search needs
-
-slice-aggregate-print-numbers-2 : tie.Need-slice-aggregate-print-numbers-2 Inv-loop μ-loop
-slice-aggregate-print-numbers-2 c = search needs
-
-print-numbers-requires : tie.Need-print-numbers-requires Inv-loop μ-loop
-print-numbers-requires c κs = search needs
-
-slice-aggregate-print-bits : tie.Need-slice-aggregate-print-bits Inv-loop μ-loop
-slice-aggregate-print-bits c = search needs
-
-print-bits-requires : tie.Need-print-bits-requires Inv-loop μ-loop
-print-bits-requires c κs = search needs
-
-slice-aggregate-print-bits-2 : tie.Need-slice-aggregate-print-bits-2 Inv-loop μ-loop
-slice-aggregate-print-bits-2 c = search needs
-
-print-bits-requires-2 : tie.Need-print-bits-requires-2 Inv-loop μ-loop
-print-bits-requires-2 c κs = search needs
-
-slice-aggregate-print-named-2 : tie.Need-slice-aggregate-print-named-2 Inv-loop μ-loop
-slice-aggregate-print-named-2 c = search needs
-
-print-named-requires-2 : tie.Need-print-named-requires-2 Inv-loop μ-loop
-print-named-requires-2 c κs = search needs
-
-slice-aggregate-print-named-3 : tie.Need-slice-aggregate-print-named-3 Inv-loop μ-loop
-slice-aggregate-print-named-3 c = search needs
-
-print-named-requires-3 : tie.Need-print-named-requires-3 Inv-loop μ-loop
-print-named-requires-3 c κs = search needs
+print-state-requires : tie.Need-print-state-requires Inv-loop μ-loop
+print-state-requires c κs = search needs
 
 print-ready-requires : tie.Need-print-ready-requires Inv-loop μ-loop
 print-ready-requires c κs = search needs
 
-slice-aggregate-print-numbers-3 : tie.Need-slice-aggregate-print-numbers-3 Inv-loop μ-loop
-slice-aggregate-print-numbers-3 c = search needs
+slice-aggregate-print-numbers : tie.Need-slice-aggregate-print-numbers Inv-loop μ-loop
+slice-aggregate-print-numbers c = search needs
 
-print-numbers-requires-2 : tie.Need-print-numbers-requires-2 Inv-loop μ-loop
-print-numbers-requires-2 c κs = search needs
+print-numbers-requires : tie.Need-print-numbers-requires Inv-loop μ-loop
+print-numbers-requires c κs = search needs
 
 same-length : tie.Need-same-length Inv-loop μ-loop
 same-length c = search needs
@@ -114,21 +78,9 @@ answer-steps-spec =
     loop-again
     slice-aggregate-say
     say-requires
-    slice-aggregate-print-named
-    print-named-requires
-    slice-aggregate-print-numbers
-    slice-aggregate-print-numbers-2
-    print-numbers-requires
-    slice-aggregate-print-bits
-    print-bits-requires
-    slice-aggregate-print-bits-2
-    print-bits-requires-2
-    slice-aggregate-print-named-2
-    print-named-requires-2
-    slice-aggregate-print-named-3
-    print-named-requires-3
+    print-state-requires
     print-ready-requires
-    slice-aggregate-print-numbers-3
-    print-numbers-requires-2
+    slice-aggregate-print-numbers
+    print-numbers-requires
     same-length
     returns)

@@ -1,0 +1,19 @@
+-- `cases_run::fours::first_words` is safe and ends. Assumes nothing.
+use mathlib.Core.Path.{sym}
+use lib.Seq.{length-take-le}
+use native.Mathlib.Omega.{arith}
+use borrow.Author.Needs.{needs}
+use Rattle.cases_run.proofs.fours.first_words.Statement.{statement}
+use Rattle.cases_run.proofs.fours.first_words.Tie as tie
+
+returns : tie.Need-returns
+returns c = search needs
+
+slice-aggregate-result : tie.Need-slice-aggregate-result
+slice-aggregate-result c = sym (length-take-le _ _ (omega arith))
+
+returns-2 : tie.Need-returns-2
+returns-2 c = search needs
+
+pub first-words-spec : {M : Type 1} → statement M
+first-words-spec = tie.close (tie.spec returns slice-aggregate-result returns-2)

@@ -1,0 +1,440 @@
+// Requests of kinds 27 and 28: four stations with one allowance, of the old form or the second. Kind, how many states are lent, the budget and
+// the allowance as two words each; then of each station: node count, nodes, word count, words, input count, inputs, the length of the lent
+// history. A lent history has 60,000 everywhere, which no register can hold.
+use crate::loading::load_long;
+use crate::loading::load_numbers;
+use crate::loading::load_words;
+use crate::loading::long_at;
+use crate::loading::size_of;
+use crate::printing::print_named;
+use crate::printing::print_numbers;
+use crate::printing::print_refused;
+use crate::printing::say;
+use crate::runs::print_state;
+use machine::Machine;
+use stations::FourStates;
+use stations::StationsAnswer;
+use words::word_at;
+ghost use Prim.Native.Nat.{_<_, _≤_};
+
+// A station's part of a request: where the nodes, the words and the inputs start, how many of each there are, the length of the lent history,
+// and where the next part starts.
+struct Part {
+    rule: usize,
+    nodes: usize,
+    script: usize,
+    words: usize,
+    given: usize,
+    inputs: usize,
+    length: usize,
+    next: usize,
+}
+
+// In no block, and nothing comes after it.
+fn no_part() -> Part
+    ensures { λ r. ⌜ (r .rule ≤ 30000) × (r .script ≤ 30000) × (r .given ≤ 30000) × (r .nodes ≤ 80) × (r .words ≤ 4096) × (r .inputs ≤ 64) × (r .length ≤ 160) ⌝ }
+{
+    Part {
+        rule: 0,
+        nodes: 0,
+        script: 0,
+        words: 0,
+        given: 0,
+        inputs: 0,
+        length: 0,
+        next: 100000,
+    }
+}
+
+// The part that starts at word `at`; none where that is not in the block or a count is out of range.
+fn part_at(s: &[u8], at: usize, is_wide: bool) -> Part
+    ensures { λ r. ⌜ (r .rule ≤ 30000) × (r .script ≤ 30000) × (r .given ≤ 30000) × (r .nodes ≤ 80) × (r .words ≤ 4096) × (r .inputs ≤ 64) × (r .length ≤ 160) ⌝ }
+{
+    if 16384 < at {
+        return no_part();
+    }
+    let rule = at + 1;
+    let nodes = word_at(s, at) as usize;
+    if 80 < nodes {
+        return no_part();
+    }
+    let script = rule + size_of(nodes, is_wide) + 1;
+    let words = word_at(s, script - 1) as usize;
+    if 4096 < words {
+        return no_part();
+    }
+    let given = script + size_of(words, is_wide) + 1;
+    let inputs = word_at(s, given - 1) as usize;
+    if 64 < inputs {
+        return no_part();
+    }
+    let end = given + inputs;
+    let length = word_at(s, end) as usize;
+    if 160 < length {
+        return no_part();
+    }
+    Part {
+        rule,
+        nodes,
+        script,
+        words,
+        given,
+        inputs,
+        length,
+        next: end + 1,
+    }
+}
+
+// The part that starts at word `at`, with what it has in the buffers.
+fn load_station(
+    s: &[u8],
+    at: usize,
+    rule: &mut [u32; 4096],
+    script: &mut [u32; 4096],
+    inputs: &mut [u16; 160],
+) -> Part
+    ensures { λ r. ⌜ r .length ≤ 160 ⌝ }
+{
+    let p = part_at(s, at, false);
+    load_words(s, p.rule, p.nodes, rule);
+    load_words(s, p.script, p.words, script);
+    load_numbers(s, p.given, p.inputs, inputs);
+    p
+}
+
+fn load_station64(
+    s: &[u8],
+    at: usize,
+    rule: &mut [u64; 4096],
+    script: &mut [u64; 4096],
+    inputs: &mut [u16; 160],
+) -> Part
+    ensures { λ r. ⌜ r .length ≤ 160 ⌝ }
+{
+    let p = part_at(s, at, true);
+    load_long(s, p.rule, p.nodes, rule);
+    load_long(s, p.script, p.words, script);
+    load_numbers(s, p.given, p.inputs, inputs);
+    p
+}
+
+// The first of a buffer, as many as there are of them.
+fn first_words(words: &[u32], count: usize) -> &[u32] {
+    if words.len() < count {
+        return words;
+    }
+    &words[..count]
+}
+
+fn first_longs(words: &[u64], count: usize) -> &[u64] {
+    if words.len() < count {
+        return words;
+    }
+    &words[..count]
+}
+
+fn first_numbers(numbers: &[u16], count: usize) -> &[u16] {
+    if numbers.len() < count {
+        return numbers;
+    }
+    &numbers[..count]
+}
+
+// The answer, and whether they ran.
+fn print_outcome(a: StationsAnswer) -> bool {
+    match a {
+        StationsAnswer::Refused { question, place } => {
+            print_refused(question, place);
+            false
+        }
+        StationsAnswer::Ran { turns, left } => {
+            say(b"ran\n");
+            print_named(b"turns", turns);
+            print_named(b"left", left);
+            true
+        }
+    }
+}
+
+// A station's state, where it ran, and its history.
+fn print_station(
+    has_run: bool,
+    m: Machine,
+    p: Part,
+    rule: &[u32; 4096],
+    rule64: &[u64; 4096],
+    is_wide: bool,
+    history: &[u16; 160],
+) {
+    if has_run {
+        let nodes = p.nodes;
+        print_state(
+            m,
+            first_words(rule, nodes),
+            first_longs(rule64, nodes),
+            is_wide,
+        );
+        print_named(b"ready", if m.readiness.ready { 1 } else { 0 });
+    }
+    print_numbers(b"history", first_numbers(history, p.length));
+}
+
+// Each station is given as much of its buffers as its part says.
+fn run_four(
+    count: usize,
+    budget: u64,
+    allowance: u64,
+    a: Part,
+    b: Part,
+    c: Part,
+    d: Part,
+    rule0: &[u32; 4096],
+    rule1: &[u32; 4096],
+    rule2: &[u32; 4096],
+    rule3: &[u32; 4096],
+    script0: &[u32; 4096],
+    script1: &[u32; 4096],
+    script2: &[u32; 4096],
+    script3: &[u32; 4096],
+    inputs0: &[u16; 160],
+    inputs1: &[u16; 160],
+    inputs2: &[u16; 160],
+    inputs3: &[u16; 160],
+    history0: &mut [u16],
+    history1: &mut [u16],
+    history2: &mut [u16],
+    history3: &mut [u16],
+) -> FourStates {
+    stations::run_listed(
+        count,
+        budget,
+        allowance,
+        first_words(rule0, a.nodes),
+        first_words(rule1, b.nodes),
+        first_words(rule2, c.nodes),
+        first_words(rule3, d.nodes),
+        first_words(script0, a.words),
+        first_words(script1, b.words),
+        first_words(script2, c.words),
+        first_words(script3, d.words),
+        first_numbers(inputs0, a.inputs),
+        first_numbers(inputs1, b.inputs),
+        first_numbers(inputs2, c.inputs),
+        first_numbers(inputs3, d.inputs),
+        history0,
+        history1,
+        history2,
+        history3,
+    )
+}
+
+fn run_four64(
+    count: usize,
+    budget: u64,
+    allowance: u64,
+    a: Part,
+    b: Part,
+    c: Part,
+    d: Part,
+    rule0: &[u64; 4096],
+    rule1: &[u64; 4096],
+    rule2: &[u64; 4096],
+    rule3: &[u64; 4096],
+    script0: &[u64; 4096],
+    script1: &[u64; 4096],
+    script2: &[u64; 4096],
+    script3: &[u64; 4096],
+    inputs0: &[u16; 160],
+    inputs1: &[u16; 160],
+    inputs2: &[u16; 160],
+    inputs3: &[u16; 160],
+    history0: &mut [u16],
+    history1: &mut [u16],
+    history2: &mut [u16],
+    history3: &mut [u16],
+) -> FourStates {
+    stations::run_listed64(
+        count,
+        budget,
+        allowance,
+        first_longs(rule0, a.nodes),
+        first_longs(rule1, b.nodes),
+        first_longs(rule2, c.nodes),
+        first_longs(rule3, d.nodes),
+        first_longs(script0, a.words),
+        first_longs(script1, b.words),
+        first_longs(script2, c.words),
+        first_longs(script3, d.words),
+        first_numbers(inputs0, a.inputs),
+        first_numbers(inputs1, b.inputs),
+        first_numbers(inputs2, c.inputs),
+        first_numbers(inputs3, d.inputs),
+        history0,
+        history1,
+        history2,
+        history3,
+    )
+}
+
+// What they answer is printed. Where the next request starts is in no block, if a count is out of range; it is later than this one in any case.
+fn answer_stations(s: &[u8], at: usize) -> usize
+    requires { ⌜ at < 16384 ⌝ }
+{
+    let count = word_at(s, at + 1) as usize;
+    let budget = long_at(s, at + 2);
+    let allowance = long_at(s, at + 4);
+    let start = at + 6;
+    let mut rule0 = [0u32; 4096];
+    let mut script0 = [0u32; 4096];
+    let mut inputs0 = [0u16; 160];
+    let mut history0 = [60000u16; 160];
+    let mut rule1 = [0u32; 4096];
+    let mut script1 = [0u32; 4096];
+    let mut inputs1 = [0u16; 160];
+    let mut history1 = [60000u16; 160];
+    let mut rule2 = [0u32; 4096];
+    let mut script2 = [0u32; 4096];
+    let mut inputs2 = [0u16; 160];
+    let mut history2 = [60000u16; 160];
+    let mut rule3 = [0u32; 4096];
+    let mut script3 = [0u32; 4096];
+    let mut inputs3 = [0u16; 160];
+    let mut history3 = [60000u16; 160];
+    let a = load_station(s, start, &mut rule0, &mut script0, &mut inputs0);
+    let b = load_station(s, a.next, &mut rule1, &mut script1, &mut inputs1);
+    let c = load_station(s, b.next, &mut rule2, &mut script2, &mut inputs2);
+    let d = load_station(s, c.next, &mut rule3, &mut script3, &mut inputs3);
+    if 16384 < d.next {
+        return d.next;
+    }
+    let length0 = a.length;
+    let length1 = b.length;
+    let length2 = c.length;
+    let length3 = d.length;
+    let f = run_four(
+        count,
+        budget,
+        allowance,
+        a,
+        b,
+        c,
+        d,
+        &rule0,
+        &rule1,
+        &rule2,
+        &rule3,
+        &script0,
+        &script1,
+        &script2,
+        &script3,
+        &inputs0,
+        &inputs1,
+        &inputs2,
+        &inputs3,
+        &mut history0[..length0],
+        &mut history1[..length1],
+        &mut history2[..length2],
+        &mut history3[..length3],
+    );
+    let outcome = f.answer;
+    let has_run = print_outcome(outcome);
+    let none = [0u64; 4096];
+    let first = f.first;
+    print_station(has_run, first, a, &rule0, &none, false, &history0);
+    let second = f.second;
+    print_station(has_run, second, b, &rule1, &none, false, &history1);
+    let third = f.third;
+    print_station(has_run, third, c, &rule2, &none, false, &history2);
+    let fourth = f.fourth;
+    print_station(has_run, fourth, d, &rule3, &none, false, &history3);
+    d.next
+}
+
+fn answer_stations64(s: &[u8], at: usize) -> usize
+    requires { ⌜ at < 16384 ⌝ }
+{
+    let count = word_at(s, at + 1) as usize;
+    let budget = long_at(s, at + 2);
+    let allowance = long_at(s, at + 4);
+    let start = at + 6;
+    let mut rule0 = [0u64; 4096];
+    let mut script0 = [0u64; 4096];
+    let mut inputs0 = [0u16; 160];
+    let mut history0 = [60000u16; 160];
+    let mut rule1 = [0u64; 4096];
+    let mut script1 = [0u64; 4096];
+    let mut inputs1 = [0u16; 160];
+    let mut history1 = [60000u16; 160];
+    let mut rule2 = [0u64; 4096];
+    let mut script2 = [0u64; 4096];
+    let mut inputs2 = [0u16; 160];
+    let mut history2 = [60000u16; 160];
+    let mut rule3 = [0u64; 4096];
+    let mut script3 = [0u64; 4096];
+    let mut inputs3 = [0u16; 160];
+    let mut history3 = [60000u16; 160];
+    let a = load_station64(s, start, &mut rule0, &mut script0, &mut inputs0);
+    let b = load_station64(s, a.next, &mut rule1, &mut script1, &mut inputs1);
+    let c = load_station64(s, b.next, &mut rule2, &mut script2, &mut inputs2);
+    let d = load_station64(s, c.next, &mut rule3, &mut script3, &mut inputs3);
+    if 16384 < d.next {
+        return d.next;
+    }
+    let length0 = a.length;
+    let length1 = b.length;
+    let length2 = c.length;
+    let length3 = d.length;
+    let f = run_four64(
+        count,
+        budget,
+        allowance,
+        a,
+        b,
+        c,
+        d,
+        &rule0,
+        &rule1,
+        &rule2,
+        &rule3,
+        &script0,
+        &script1,
+        &script2,
+        &script3,
+        &inputs0,
+        &inputs1,
+        &inputs2,
+        &inputs3,
+        &mut history0[..length0],
+        &mut history1[..length1],
+        &mut history2[..length2],
+        &mut history3[..length3],
+    );
+    let outcome = f.answer;
+    let has_run = print_outcome(outcome);
+    let none = [0u32; 4096];
+    let first = f.first;
+    print_station(has_run, first, a, &none, &rule0, true, &history0);
+    let second = f.second;
+    print_station(has_run, second, b, &none, &rule1, true, &history1);
+    let third = f.third;
+    print_station(has_run, third, c, &none, &rule2, true, &history2);
+    let fourth = f.fourth;
+    print_station(has_run, fourth, d, &none, &rule3, true, &history3);
+    d.next
+}
+
+// The request of this kind that starts at word `at`, and where the next one starts.
+pub(crate) fn request_stations(s: &[u8], kind: u32, at: usize) -> usize
+    requires { ⌜ at < 16384 ⌝ }
+    ensures { λ r. ⌜ at < r ⌝ }
+{
+    let next = if kind == 28 {
+        answer_stations64(s, at)
+    } else {
+        answer_stations(s, at)
+    };
+    if next <= at {
+        return 100000;
+    }
+    next
+}
