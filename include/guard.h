@@ -6,22 +6,23 @@
  * allocate nothing, and may be called from several threads at once.
  *
  * Every function here is proved: for each input it ends, reads and writes only what is lent to it, and answers what
- * crates/spec/specs says, a move what crates/moves/specs says (crates/guard/src/lib.rt and crates/guard64/src have the contracts).
+ * crates/spec/specs says, a move what crates/moves/specs says, a run of four stations what crates/turns/specs says (crates/guard/src/lib.rt
+ * and crates/guard64/src have the contracts).
  *
  * LENT MEMORY. Each array comes as a pointer and its length in elements, not in bytes. A pointer is aligned for its elements and
  * is not null, also where the length is 0 (any aligned address serves then). `const` arrays are only read. An array that a
  * function may write overlaps no other array of the same call, and no other thread uses it during the call. Every length is
  * allowed; nothing is read or written past it.
  *
- * THE NUMBER HANDED BACK is 0, or 1 to 20: the question that has a no (enum guard_question), or GUARD_TOO_SHORT where the lent
+ * THE NUMBER HANDED BACK is 0, or 1 to 21: the question that has a no (enum guard_question), or GUARD_TOO_SHORT where the lent
  * `numbers` or `state` is shorter than the function needs, or (a step alone) GUARD_TOO_LARGE.
  *
  * THE OTHER NUMBERS of an answer go into the first elements of `numbers`, as many as the function's GUARD_..._NUMBERS; elements
- * after these stay as they were. On a refusal (1 to 20) numbers[GUARD_PLACE] is the place and every other number of the answer
+ * after these stay as they were. On a refusal (1 to 21) numbers[GUARD_PLACE] is the place and every other number of the answer
  * is 0; otherwise the place is 0.
  *
- * WHAT A REFUSAL LEAVES UNTOUCHED. With 1 to 20 `out`, and the history of a run, are as they were. With GUARD_TOO_SHORT and
- * GUARD_TOO_LARGE nothing at all is written, `numbers` and `state` included.
+ * WHAT A REFUSAL LEAVES UNTOUCHED. With 1 to 21 `out`, the history of a run, and the states and histories of a run of four stations are as
+ * they were. With GUARD_TOO_SHORT and GUARD_TOO_LARGE nothing at all is written, `numbers`, `state` and `states` included.
  *
  * FORMATS. A rule is 1 to 32 nodes, one 32-bit word each, from the most significant bit: kind 3 bits, register 4, constant 14,
  * left 5, right 5, a zero bit; an operand is a node's number, from 0. A node may be an operand more than once. Since and weak previous,
@@ -56,8 +57,9 @@ extern "C" {
 #endif
 
 /* The questions, in the order in which they are put, but for a text: 16, 17, 18, then 13, for facts to be found: 1 to 7, 19, then 13,
- * and for a move back: 1 to 4, 20, of a script 5 to 8, then 13. Each is put to the whole input before the next. In brackets what the
- * place counts, from 0; the others have place 0. */
+ * for a move back: 1 to 4, 20, of a script 5 to 8, then 13, and for four stations: 21, then 1 to 11 of one station after the other, then 15
+ * likewise. Each is put to the whole input before the next, of four stations to the station's. In brackets what the place counts, from 0; the
+ * others have place 0. A run of four stations has the station for its place, 0 to 3, whatever the question counts. */
 enum guard_question {
     GUARD_YES = 0,                /* every question has a yes */
     GUARD_NODE_COUNT = 1,         /* has the rule 1 to 32 nodes, in the second form 1 to 64? */
@@ -84,6 +86,7 @@ enum guard_question {
     GUARD_PRESENT_LOST = 19,      /* at each present, is the rule known to be true by the largest facts? If not, no facts whatever get
                                      these instructions accepted (line) */
     GUARD_MOVED_NODE_COUNT = 20,  /* has the rule that moves back to the first form at most 32 nodes? */
+    GUARD_STATION_COUNT = 21,     /* are four states lent, neither more nor less? */
     GUARD_TOO_LARGE = 98,         /* a step: a register in `state` is above 65,535, or state[GUARD_STATE_READY] above 1 */
     GUARD_TOO_SHORT = 99          /* `numbers` or `state` is shorter than the function needs */
 };
@@ -108,8 +111,9 @@ enum guard_stack {
     GUARD_STACK_FACTS = 58496,
     GUARD_STACK_JUDGE = 512,
     GUARD_STACK_RUN = 1280,
-    GUARD_STACK_FRESH = 512,
-    GUARD_STACK_STEP = 896,
+    GUARD_STACK_FRESH = 640,
+    GUARD_STACK_STEP = 1152,
+    GUARD_STACK_STATIONS = 3072,
     GUARD_STACK_TEXT64 = 2432,
     GUARD_STACK_RULE64 = 256,
     GUARD_STACK_BARE64 = 384,
@@ -118,8 +122,9 @@ enum guard_stack {
     GUARD_STACK_FACTS64 = 58240,
     GUARD_STACK_JUDGE64 = 256,
     GUARD_STACK_RUN64 = 1024,
-    GUARD_STACK_FRESH64 = 256,
-    GUARD_STACK_STEP64 = 640,
+    GUARD_STACK_FRESH64 = 384,
+    GUARD_STACK_STEP64 = 896,
+    GUARD_STACK_STATIONS64 = 3072,
     GUARD_STACK_RULE_UP = 256,
     GUARD_STACK_RULE_BACK = 256,
     GUARD_STACK_SCRIPT_UP = 768,
@@ -285,9 +290,73 @@ uint32_t guard_step(const uint32_t *rule, size_t rule_length, const uint32_t *sc
                     const uint16_t *inputs, size_t inputs_length, uint16_t *history, size_t history_length,
                     uint64_t *state, size_t state_length);
 
-/* The same ten over the second form: what is said of guard_text holds for guard_text64, and so on, with 64 nodes for 32, and the same
- * GUARD_..._NUMBERS and GUARD_STATE_NUMBERS. A rule and an annotated script of one call have the same form; a state has none, its sets
- * have a bit for each of 64 nodes in both. */
+/* Runs four annotated scripts, one a station, each from a fresh start, with one allowance of presentations between them. Each station has its
+ * own rule, script, inputs and history. Question 21 comes first: has `states` GUARD_STATIONS_STATES elements? Then, station by station, 1 to
+ * 11, and then, station by station, 15 of the inputs; numbers[GUARD_PLACE] is the lowest station that has a no.
+ *
+ * Turns go to stations 0, 1, 2, 3, then 0 again, and a turn is one step. A station is passed over, and nothing of it changes, where a run
+ * would stop: at a halt, at an input when none is left, at a present with fewer than 16 free numbers in its history; and at a present when
+ * nothing is left of the allowance. A present that is made takes one from the allowance. A pass is a turn too. The run ends when as many turns
+ * as `budget` were made, or when four successive stations were passed over, for then none of them can ever move.
+ *
+ * The state of station k goes to states[25 x k] to states[25 x k + 24], in the order of guard_step's, and its presentations into its history as
+ * in guard_run. What `states` and the histories hold before is not looked at, so there is no GUARD_TOO_LARGE.
+ *
+ * Of every run that is not refused it is proved:
+ *   - each station's history obeys its own rule, at every presentation;
+ *   - a station able to move at its turn moves; at the turn of another it stays as it is; and until the run ends its next turn comes after
+ *     three others, so that none is forgotten;
+ *   - the presentations of the four plus what is left equal the allowance;
+ *   - each state is one that guard_fresh and some number of guard_steps make of the station by itself, ready included: guard_step may go on
+ *     from there. */
+enum {
+    GUARD_STATIONS = 4,
+    GUARD_STATIONS_TURNS = 1,     /* how many turns were made, passes included */
+    GUARD_STATIONS_LEFT = 2,      /* what is left of the allowance */
+    GUARD_STATIONS_NUMBERS = 3,
+    GUARD_STATIONS_STATES = 100   /* GUARD_STATIONS x GUARD_STATE_NUMBERS */
+};
+uint32_t guard_stations(uint64_t *states, size_t states_length, uint64_t budget, uint64_t allowance,
+                        const uint32_t *rule0, size_t rule0_length, const uint32_t *rule1, size_t rule1_length,
+                        const uint32_t *rule2, size_t rule2_length, const uint32_t *rule3, size_t rule3_length,
+                        const uint32_t *script0, size_t script0_length, const uint32_t *script1, size_t script1_length,
+                        const uint32_t *script2, size_t script2_length, const uint32_t *script3, size_t script3_length,
+                        const uint16_t *inputs0, size_t inputs0_length, const uint16_t *inputs1, size_t inputs1_length,
+                        const uint16_t *inputs2, size_t inputs2_length, const uint16_t *inputs3, size_t inputs3_length,
+                        uint16_t *history0, size_t history0_length, uint16_t *history1, size_t history1_length,
+                        uint16_t *history2, size_t history2_length, uint16_t *history3, size_t history3_length,
+                        uint64_t *numbers, size_t numbers_length);
+
+/* What is lent for one station, besides its state. */
+struct guard_station {
+    const uint32_t *rule;
+    size_t rule_length;
+    const uint32_t *script;
+    size_t script_length;
+    const uint16_t *inputs;
+    size_t inputs_length;
+    uint16_t *history;
+    size_t history_length;
+};
+
+/* guard_stations with the four in an array, GUARD_STATIONS of them. */
+static inline uint32_t guard_stations_of(uint64_t *states, size_t states_length, uint64_t budget, uint64_t allowance,
+                                         const struct guard_station *stations, uint64_t *numbers, size_t numbers_length)
+{
+    const struct guard_station *a = &stations[0], *b = &stations[1], *c = &stations[2], *d = &stations[3];
+    return guard_stations(states, states_length, budget, allowance,
+                          a->rule, a->rule_length, b->rule, b->rule_length, c->rule, c->rule_length, d->rule, d->rule_length,
+                          a->script, a->script_length, b->script, b->script_length,
+                          c->script, c->script_length, d->script, d->script_length,
+                          a->inputs, a->inputs_length, b->inputs, b->inputs_length,
+                          c->inputs, c->inputs_length, d->inputs, d->inputs_length,
+                          a->history, a->history_length, b->history, b->history_length,
+                          c->history, c->history_length, d->history, d->history_length, numbers, numbers_length);
+}
+
+/* The same eleven over the second form: what is said of guard_text holds for guard_text64, and so on, with 64 nodes for 32, and the same
+ * GUARD_..._NUMBERS, GUARD_STATE_NUMBERS and GUARD_STATIONS_STATES. The rules and annotated scripts of one call have the same form; a state has
+ * none, its sets have a bit for each of 64 nodes in both. */
 uint32_t guard_text64(const uint8_t *text, size_t text_length, uint64_t *out, size_t out_length,
                       uint64_t *numbers, size_t numbers_length);
 uint32_t guard_rule64(const uint64_t *rule, size_t rule_length, uint64_t *numbers, size_t numbers_length);
@@ -308,6 +377,41 @@ uint32_t guard_fresh64(const uint64_t *rule, size_t rule_length, uint64_t *state
 uint32_t guard_step64(const uint64_t *rule, size_t rule_length, const uint64_t *script, size_t script_length,
                       const uint16_t *inputs, size_t inputs_length, uint16_t *history, size_t history_length,
                       uint64_t *state, size_t state_length);
+uint32_t guard_stations64(uint64_t *states, size_t states_length, uint64_t budget, uint64_t allowance,
+                          const uint64_t *rule0, size_t rule0_length, const uint64_t *rule1, size_t rule1_length,
+                          const uint64_t *rule2, size_t rule2_length, const uint64_t *rule3, size_t rule3_length,
+                          const uint64_t *script0, size_t script0_length, const uint64_t *script1, size_t script1_length,
+                          const uint64_t *script2, size_t script2_length, const uint64_t *script3, size_t script3_length,
+                          const uint16_t *inputs0, size_t inputs0_length, const uint16_t *inputs1, size_t inputs1_length,
+                          const uint16_t *inputs2, size_t inputs2_length, const uint16_t *inputs3, size_t inputs3_length,
+                          uint16_t *history0, size_t history0_length, uint16_t *history1, size_t history1_length,
+                          uint16_t *history2, size_t history2_length, uint16_t *history3, size_t history3_length,
+                          uint64_t *numbers, size_t numbers_length);
+
+struct guard_station64 {
+    const uint64_t *rule;
+    size_t rule_length;
+    const uint64_t *script;
+    size_t script_length;
+    const uint16_t *inputs;
+    size_t inputs_length;
+    uint16_t *history;
+    size_t history_length;
+};
+
+static inline uint32_t guard_stations_of64(uint64_t *states, size_t states_length, uint64_t budget, uint64_t allowance,
+                                           const struct guard_station64 *stations, uint64_t *numbers, size_t numbers_length)
+{
+    const struct guard_station64 *a = &stations[0], *b = &stations[1], *c = &stations[2], *d = &stations[3];
+    return guard_stations64(states, states_length, budget, allowance,
+                            a->rule, a->rule_length, b->rule, b->rule_length, c->rule, c->rule_length, d->rule, d->rule_length,
+                            a->script, a->script_length, b->script, b->script_length,
+                            c->script, c->script_length, d->script, d->script_length,
+                            a->inputs, a->inputs_length, b->inputs, b->inputs_length,
+                            c->inputs, c->inputs_length, d->inputs, d->inputs_length,
+                            a->history, a->history_length, b->history, b->history_length,
+                            c->history, c->history_length, d->history, d->history_length, numbers, numbers_length);
+}
 
 /* The moves, of a rule and of an annotated script: up, from the first form to the second, and back. A rule: questions 1 to 4, back 20, and
  * 13. A script, with its rule in the form that it moves from: 1 to 4, back 20, 5 to 8, and 13; one that 9, 10 or 11 would refuse moves all

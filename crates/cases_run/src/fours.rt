@@ -1,9 +1,8 @@
 // Requests of kinds 27 and 28: four stations with one allowance, of the old form or the second. Kind, how many states are lent, the budget and
 // the allowance as two words each; then of each station: node count, nodes, word count, words, input count, inputs, the length of the lent
 // history. A lent history has 60,000 everywhere, which no register can hold.
-use crate::loading::load_long;
+use crate::loading::load_either;
 use crate::loading::load_numbers;
-use crate::loading::load_words;
 use crate::loading::long_at;
 use crate::loading::size_of;
 use crate::printing::print_named;
@@ -85,35 +84,22 @@ fn part_at(s: &[u8], at: usize, is_wide: bool) -> Part
     }
 }
 
-// The part that starts at word `at`, with what it has in the buffers.
+// The part that starts at word `at`, with what it has in the buffers of its form, which are as long as a part allows.
 fn load_station(
     s: &[u8],
     at: usize,
-    rule: &mut [u32; 4096],
+    is_wide: bool,
+    rule: &mut [u32; 80],
+    rule_wide: &mut [u64; 80],
     script: &mut [u32; 4096],
-    inputs: &mut [u16; 160],
+    script_wide: &mut [u64; 4096],
+    inputs: &mut [u16; 64],
 ) -> Part
     ensures { λ r. ⌜ r .length ≤ 160 ⌝ }
 {
-    let p = part_at(s, at, false);
-    load_words(s, p.rule, p.nodes, rule);
-    load_words(s, p.script, p.words, script);
-    load_numbers(s, p.given, p.inputs, inputs);
-    p
-}
-
-fn load_station64(
-    s: &[u8],
-    at: usize,
-    rule: &mut [u64; 4096],
-    script: &mut [u64; 4096],
-    inputs: &mut [u16; 160],
-) -> Part
-    ensures { λ r. ⌜ r .length ≤ 160 ⌝ }
-{
-    let p = part_at(s, at, true);
-    load_long(s, p.rule, p.nodes, rule);
-    load_long(s, p.script, p.words, script);
+    let p = part_at(s, at, is_wide);
+    load_either(s, p.rule, p.nodes, is_wide, rule, rule_wide);
+    load_either(s, p.script, p.words, is_wide, script, script_wide);
     load_numbers(s, p.given, p.inputs, inputs);
     p
 }
@@ -161,9 +147,9 @@ fn print_station(
     has_run: bool,
     m: Machine,
     p: Part,
-    rule: &[u32; 4096],
-    rule64: &[u64; 4096],
     is_wide: bool,
+    rule: &[u32; 80],
+    rule_wide: &[u64; 80],
     history: &[u16; 160],
 ) {
     if has_run {
@@ -171,7 +157,7 @@ fn print_station(
         print_state(
             m,
             first_words(rule, nodes),
-            first_longs(rule64, nodes),
+            first_longs(rule_wide, nodes),
             is_wide,
         );
         print_named(b"ready", if m.readiness.ready { 1 } else { 0 });
@@ -179,32 +165,64 @@ fn print_station(
     print_numbers(b"history", first_numbers(history, p.length));
 }
 
-// Each station is given as much of its buffers as its part says.
+// Each station is given as much of its buffers as its part says. The entry points have a form each, so here it is chosen.
 fn run_four(
     count: usize,
     budget: u64,
     allowance: u64,
+    is_wide: bool,
     a: Part,
     b: Part,
     c: Part,
     d: Part,
-    rule0: &[u32; 4096],
-    rule1: &[u32; 4096],
-    rule2: &[u32; 4096],
-    rule3: &[u32; 4096],
+    rule0: &[u32; 80],
+    rule1: &[u32; 80],
+    rule2: &[u32; 80],
+    rule3: &[u32; 80],
+    rule_wide0: &[u64; 80],
+    rule_wide1: &[u64; 80],
+    rule_wide2: &[u64; 80],
+    rule_wide3: &[u64; 80],
     script0: &[u32; 4096],
     script1: &[u32; 4096],
     script2: &[u32; 4096],
     script3: &[u32; 4096],
-    inputs0: &[u16; 160],
-    inputs1: &[u16; 160],
-    inputs2: &[u16; 160],
-    inputs3: &[u16; 160],
+    script_wide0: &[u64; 4096],
+    script_wide1: &[u64; 4096],
+    script_wide2: &[u64; 4096],
+    script_wide3: &[u64; 4096],
+    inputs0: &[u16; 64],
+    inputs1: &[u16; 64],
+    inputs2: &[u16; 64],
+    inputs3: &[u16; 64],
     history0: &mut [u16],
     history1: &mut [u16],
     history2: &mut [u16],
     history3: &mut [u16],
 ) -> FourStates {
+    if is_wide {
+        return stations::run_listed64(
+            count,
+            budget,
+            allowance,
+            first_longs(rule_wide0, a.nodes),
+            first_longs(rule_wide1, b.nodes),
+            first_longs(rule_wide2, c.nodes),
+            first_longs(rule_wide3, d.nodes),
+            first_longs(script_wide0, a.words),
+            first_longs(script_wide1, b.words),
+            first_longs(script_wide2, c.words),
+            first_longs(script_wide3, d.words),
+            first_numbers(inputs0, a.inputs),
+            first_numbers(inputs1, b.inputs),
+            first_numbers(inputs2, c.inputs),
+            first_numbers(inputs3, d.inputs),
+            history0,
+            history1,
+            history2,
+            history3,
+        );
+    }
     stations::run_listed(
         count,
         budget,
@@ -228,82 +246,79 @@ fn run_four(
     )
 }
 
-fn run_four64(
-    count: usize,
-    budget: u64,
-    allowance: u64,
-    a: Part,
-    b: Part,
-    c: Part,
-    d: Part,
-    rule0: &[u64; 4096],
-    rule1: &[u64; 4096],
-    rule2: &[u64; 4096],
-    rule3: &[u64; 4096],
-    script0: &[u64; 4096],
-    script1: &[u64; 4096],
-    script2: &[u64; 4096],
-    script3: &[u64; 4096],
-    inputs0: &[u16; 160],
-    inputs1: &[u16; 160],
-    inputs2: &[u16; 160],
-    inputs3: &[u16; 160],
-    history0: &mut [u16],
-    history1: &mut [u16],
-    history2: &mut [u16],
-    history3: &mut [u16],
-) -> FourStates {
-    stations::run_listed64(
-        count,
-        budget,
-        allowance,
-        first_longs(rule0, a.nodes),
-        first_longs(rule1, b.nodes),
-        first_longs(rule2, c.nodes),
-        first_longs(rule3, d.nodes),
-        first_longs(script0, a.words),
-        first_longs(script1, b.words),
-        first_longs(script2, c.words),
-        first_longs(script3, d.words),
-        first_numbers(inputs0, a.inputs),
-        first_numbers(inputs1, b.inputs),
-        first_numbers(inputs2, c.inputs),
-        first_numbers(inputs3, d.inputs),
-        history0,
-        history1,
-        history2,
-        history3,
-    )
-}
-
-// What they answer is printed. Where the next request starts is in no block, if a count is out of range; it is later than this one in any case.
-fn answer_stations(s: &[u8], at: usize) -> usize
+// What they answer is printed. Of the buffers of the two forms those of the other one stay as they are, and nothing reads them. Where the next
+// request starts is in no block, if a count is out of range; it is later than this one in any case.
+fn answer_stations(s: &[u8], at: usize, is_wide: bool) -> usize
     requires { ⌜ at < 16384 ⌝ }
 {
     let count = word_at(s, at + 1) as usize;
     let budget = long_at(s, at + 2);
     let allowance = long_at(s, at + 4);
     let start = at + 6;
-    let mut rule0 = [0u32; 4096];
+    let mut rule0 = [0u32; 80];
+    let mut rule_wide0 = [0u64; 80];
     let mut script0 = [0u32; 4096];
-    let mut inputs0 = [0u16; 160];
+    let mut script_wide0 = [0u64; 4096];
+    let mut inputs0 = [0u16; 64];
     let mut history0 = [60000u16; 160];
-    let mut rule1 = [0u32; 4096];
+    let mut rule1 = [0u32; 80];
+    let mut rule_wide1 = [0u64; 80];
     let mut script1 = [0u32; 4096];
-    let mut inputs1 = [0u16; 160];
+    let mut script_wide1 = [0u64; 4096];
+    let mut inputs1 = [0u16; 64];
     let mut history1 = [60000u16; 160];
-    let mut rule2 = [0u32; 4096];
+    let mut rule2 = [0u32; 80];
+    let mut rule_wide2 = [0u64; 80];
     let mut script2 = [0u32; 4096];
-    let mut inputs2 = [0u16; 160];
+    let mut script_wide2 = [0u64; 4096];
+    let mut inputs2 = [0u16; 64];
     let mut history2 = [60000u16; 160];
-    let mut rule3 = [0u32; 4096];
+    let mut rule3 = [0u32; 80];
+    let mut rule_wide3 = [0u64; 80];
     let mut script3 = [0u32; 4096];
-    let mut inputs3 = [0u16; 160];
+    let mut script_wide3 = [0u64; 4096];
+    let mut inputs3 = [0u16; 64];
     let mut history3 = [60000u16; 160];
-    let a = load_station(s, start, &mut rule0, &mut script0, &mut inputs0);
-    let b = load_station(s, a.next, &mut rule1, &mut script1, &mut inputs1);
-    let c = load_station(s, b.next, &mut rule2, &mut script2, &mut inputs2);
-    let d = load_station(s, c.next, &mut rule3, &mut script3, &mut inputs3);
+    let a = load_station(
+        s,
+        start,
+        is_wide,
+        &mut rule0,
+        &mut rule_wide0,
+        &mut script0,
+        &mut script_wide0,
+        &mut inputs0,
+    );
+    let b = load_station(
+        s,
+        a.next,
+        is_wide,
+        &mut rule1,
+        &mut rule_wide1,
+        &mut script1,
+        &mut script_wide1,
+        &mut inputs1,
+    );
+    let c = load_station(
+        s,
+        b.next,
+        is_wide,
+        &mut rule2,
+        &mut rule_wide2,
+        &mut script2,
+        &mut script_wide2,
+        &mut inputs2,
+    );
+    let d = load_station(
+        s,
+        c.next,
+        is_wide,
+        &mut rule3,
+        &mut rule_wide3,
+        &mut script3,
+        &mut script_wide3,
+        &mut inputs3,
+    );
     if 16384 < d.next {
         return d.next;
     }
@@ -315,6 +330,7 @@ fn answer_stations(s: &[u8], at: usize) -> usize
         count,
         budget,
         allowance,
+        is_wide,
         a,
         b,
         c,
@@ -323,10 +339,18 @@ fn answer_stations(s: &[u8], at: usize) -> usize
         &rule1,
         &rule2,
         &rule3,
+        &rule_wide0,
+        &rule_wide1,
+        &rule_wide2,
+        &rule_wide3,
         &script0,
         &script1,
         &script2,
         &script3,
+        &script_wide0,
+        &script_wide1,
+        &script_wide2,
+        &script_wide3,
         &inputs0,
         &inputs1,
         &inputs2,
@@ -338,88 +362,14 @@ fn answer_stations(s: &[u8], at: usize) -> usize
     );
     let outcome = f.answer;
     let has_run = print_outcome(outcome);
-    let none = [0u64; 4096];
     let first = f.first;
-    print_station(has_run, first, a, &rule0, &none, false, &history0);
+    print_station(has_run, first, a, is_wide, &rule0, &rule_wide0, &history0);
     let second = f.second;
-    print_station(has_run, second, b, &rule1, &none, false, &history1);
+    print_station(has_run, second, b, is_wide, &rule1, &rule_wide1, &history1);
     let third = f.third;
-    print_station(has_run, third, c, &rule2, &none, false, &history2);
+    print_station(has_run, third, c, is_wide, &rule2, &rule_wide2, &history2);
     let fourth = f.fourth;
-    print_station(has_run, fourth, d, &rule3, &none, false, &history3);
-    d.next
-}
-
-fn answer_stations64(s: &[u8], at: usize) -> usize
-    requires { ⌜ at < 16384 ⌝ }
-{
-    let count = word_at(s, at + 1) as usize;
-    let budget = long_at(s, at + 2);
-    let allowance = long_at(s, at + 4);
-    let start = at + 6;
-    let mut rule0 = [0u64; 4096];
-    let mut script0 = [0u64; 4096];
-    let mut inputs0 = [0u16; 160];
-    let mut history0 = [60000u16; 160];
-    let mut rule1 = [0u64; 4096];
-    let mut script1 = [0u64; 4096];
-    let mut inputs1 = [0u16; 160];
-    let mut history1 = [60000u16; 160];
-    let mut rule2 = [0u64; 4096];
-    let mut script2 = [0u64; 4096];
-    let mut inputs2 = [0u16; 160];
-    let mut history2 = [60000u16; 160];
-    let mut rule3 = [0u64; 4096];
-    let mut script3 = [0u64; 4096];
-    let mut inputs3 = [0u16; 160];
-    let mut history3 = [60000u16; 160];
-    let a = load_station64(s, start, &mut rule0, &mut script0, &mut inputs0);
-    let b = load_station64(s, a.next, &mut rule1, &mut script1, &mut inputs1);
-    let c = load_station64(s, b.next, &mut rule2, &mut script2, &mut inputs2);
-    let d = load_station64(s, c.next, &mut rule3, &mut script3, &mut inputs3);
-    if 16384 < d.next {
-        return d.next;
-    }
-    let length0 = a.length;
-    let length1 = b.length;
-    let length2 = c.length;
-    let length3 = d.length;
-    let f = run_four64(
-        count,
-        budget,
-        allowance,
-        a,
-        b,
-        c,
-        d,
-        &rule0,
-        &rule1,
-        &rule2,
-        &rule3,
-        &script0,
-        &script1,
-        &script2,
-        &script3,
-        &inputs0,
-        &inputs1,
-        &inputs2,
-        &inputs3,
-        &mut history0[..length0],
-        &mut history1[..length1],
-        &mut history2[..length2],
-        &mut history3[..length3],
-    );
-    let outcome = f.answer;
-    let has_run = print_outcome(outcome);
-    let none = [0u32; 4096];
-    let first = f.first;
-    print_station(has_run, first, a, &none, &rule0, true, &history0);
-    let second = f.second;
-    print_station(has_run, second, b, &none, &rule1, true, &history1);
-    let third = f.third;
-    print_station(has_run, third, c, &none, &rule2, true, &history2);
-    let fourth = f.fourth;
-    print_station(has_run, fourth, d, &none, &rule3, true, &history3);
+    print_station(has_run, fourth, d, is_wide, &rule3, &rule_wide3, &history3);
     d.next
 }
 
@@ -428,11 +378,7 @@ pub(crate) fn request_stations(s: &[u8], kind: u32, at: usize) -> usize
     requires { ⌜ at < 16384 ⌝ }
     ensures { λ r. ⌜ at < r ⌝ }
 {
-    let next = if kind == 28 {
-        answer_stations64(s, at)
-    } else {
-        answer_stations(s, at)
-    };
+    let next = answer_stations(s, at, kind == 28);
     if next <= at {
         return 100000;
     }

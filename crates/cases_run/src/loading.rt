@@ -51,6 +51,24 @@ pub(crate) fn load_long(s: &[u8], at: usize, count: usize, out: &mut [u64])
     }
 }
 
+// The `count` words of either form, as far as the buffer of that form goes; the other one stays as it is.
+pub(crate) fn load_either(
+    s: &[u8],
+    at: usize,
+    count: usize,
+    is_wide: bool,
+    narrow: &mut [u32],
+    wide: &mut [u64],
+)
+    requires { ⌜ (at ≤ 1000000) × (count ≤ 1000000) ⌝ }
+{
+    if is_wide {
+        load_long(s, at, count, wide);
+    } else {
+        load_words(s, at, count, narrow);
+    }
+}
+
 // Two words, at `at`.
 pub(crate) fn long_at(s: &[u8], at: usize) -> u64
     requires { ⌜ at ≤ 4000000 ⌝ }

@@ -67,30 +67,6 @@ fn answer_run64(rule: &[u64], script: &[u64], inputs: &[u16], budget: u64, histo
     print_run(a, true, &history[..]);
 }
 
-// Of the two rules and scripts the ones of the form that `is_wide` says are read.
-fn fresh_in(rule: &[u32], rule64: &[u64], is_wide: bool) -> Machine {
-    if is_wide {
-        return Machine::fresh64(rule64);
-    }
-    Machine::fresh(rule)
-}
-
-fn step_in(
-    m: Machine,
-    rule: &[u32],
-    script: &[u32],
-    rule64: &[u64],
-    script64: &[u64],
-    is_wide: bool,
-    inputs: &[u16],
-    history: &mut [u16],
-) -> Machine {
-    if is_wide {
-        return m.step64(rule64, script64, inputs, history);
-    }
-    m.step(rule, script, inputs, history)
-}
-
 // A machine's state but for its readiness.
 pub(crate) fn print_state(m: Machine, rule: &[u32], rule64: &[u64], is_wide: bool) {
     let registers = m.registers;
@@ -119,6 +95,7 @@ fn print_ready(ready: bool, count: u64) {
     print_named(b"", count);
 }
 
+// Of the two rules and scripts the ones of the form that `is_wide` says are read.
 fn answer_steps(
     rule: &[u32],
     script: &[u32],
@@ -129,12 +106,12 @@ fn answer_steps(
     count: u64,
     history: &mut [u16],
 ) {
-    let mut m = fresh_in(rule, rule64, is_wide);
+    let mut m = Machine::fresh_either(is_wide, rule, rule64);
     let mut ready = count_ready(0, m.readiness.ready);
     let mut i: u64 = 0;
     while i < count {
         i += 1;
-        m = step_in(m, rule, script, rule64, script64, is_wide, inputs, history);
+        m = m.step_either(is_wide, rule, rule64, script, script64, inputs, history);
         ready = count_ready(ready, m.readiness.ready);
     }
     say(b"stepped\n");

@@ -1,8 +1,8 @@
 -- A machine's state in lent words.
 use mathlib.Core.Bool.{Bool, cond, _&&_}
 use mathlib.Core.List.{List, [], _∷_, _++_}
-use Prim.Native.Nat.{ℕ, _+_}
-use lib.ListN.{getD, take, drop}
+use Prim.Native.Nat.{ℕ, _+_, _/_, _%_}
+use lib.ListN.{length, getD, take, drop}
 use lib.Dec.{eqb, leb}
 use Rattle.spec.specs.Logic.{registerCount}
 use Rattle.spec.specs.Questions.{allBelow}
@@ -21,6 +21,10 @@ registersAt = 5
 
 abbrev pub readinessAt : ℕ
 readinessAt = 21
+
+-- how many states the words of a list of states are; words that are not whole states are none (2026-10)
+unfoldable pub statesIn : (words : List ℕ) → ℕ
+statesIn ws = cond (eqb (length ws % stateLength) 0) (length ws / stateLength) 0
 
 -- a word of bits: node 0 is the most significant bit
 abbrev pub bitsWidth : ℕ

@@ -67,7 +67,7 @@ module _ (form : Form) (s : Four Station) (budget allowance : ℕ) where
       inputs-no y told₂ q i e = stays q i (numbers-refused (sym told ∙ yes) q i (sym told₂ ∙ e))
 
       pub all-ran : (y : Checked) → y ≡ numbers → y ≡ passed tt → (p : Progress) (hs : Four (List ℕ)) → progressOf p hs ≡ end
-          → Answered (runningStations form 4 s budget allowance) (Ran (p .turns) (p .left)) ms (four (p .first) (p .second) (p .third) (p .fourth)) lent hs
+          → Answered (runningStations form 4 s budget allowance) (Ran (p .counts .turns) (p .counts .left)) ms (four (p .first) (p .second) (p .third) (p .fourth)) lent hs
       all-ran y told₂ yes₂ p hs e =
           let all = runs (sym told ∙ yes) (sym told₂ ∙ yes₂) ∙ ap passed (sym e) in
           rw all (record { report = refl; kept = refl })

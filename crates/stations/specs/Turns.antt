@@ -7,7 +7,7 @@ use Rattle.spec.specs.Rule.{Form}
 use Rattle.spec.specs.Ready.{MachineState}
 use Rattle.turns.specs.Stations.{Station, passedOver, leftAfter, stationStep}
 use Rattle.machine.specs.Machines.{stateOf}
-use Rattle.stations.specs.declared.Progress.{Progress}
+use Rattle.stations.specs.declared.Counts.{Counts}
 use Rattle.stations.specs.declared.turning.Turn.{Turn}
 
 -- what station x makes of its turn, with `rest` left of the allowance: it moves, or it stays as it is
@@ -16,14 +16,6 @@ pub record Taken (form : Form) (x : Station) (rest : ℕ) (y : MachineState) (r 
   pub machine : stateOf (r .machine) history ≡ cond (passedOver form x rest (y .machine)) y (stationStep form x y)
   pub left : r .left ≡ cond (passedOver form x rest (y .machine)) rest (leftAfter form x rest (y .machine))
 
--- the progress after a turn, but for the machine that moved
-abbrev pub counted : Progress → (left : ℕ) (moved : Bool) → Progress
-counted p left moved = record {
-  first = p .first;
-  second = p .second;
-  third = p .third;
-  fourth = p .fourth;
-  left = left;
-  passes = cond moved 0 (p .passes + 1);
-  turns = p .turns + 1;
-}
+-- what is counted after a turn
+abbrev pub counted : Counts → (left : ℕ) (moved : Bool) → Counts
+counted c left moved = record { left = left; passes = cond moved 0 (c .passes + 1); turns = c .turns + 1 }

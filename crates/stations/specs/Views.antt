@@ -40,9 +40,9 @@ machinesOf ms h =
 abbrev pub progressOf : Progress → (histories : Four (List ℕ)) → stationed.Progress
 progressOf p h = record {
   machines = machinesOf (four (p .first) (p .second) (p .third) (p .fourth)) h;
-  left = p .left;
-  passes = p .passes;
-  turns = p .turns;
+  left = p .counts .left;
+  passes = p .counts .passes;
+  turns = p .counts .turns;
 }
 
 abbrev pub statesOf : FourStates → Four Machine

@@ -18,16 +18,20 @@ mod questions;
 mod running;
 mod turning;
 
-// Where a run of the four stands: their machines, what is left of the allowance, how many successive stations were passed over,
-// and how many turns there were.
+// What is left of the allowance, how many successive stations were passed over, and how many turns there were.
+pub(crate) struct Counts {
+    pub left: u64,
+    pub passes: u64,
+    pub turns: u64,
+}
+
+// Where a run of the four stands.
 pub(crate) struct Progress {
     pub first: Machine,
     pub second: Machine,
     pub third: Machine,
     pub fourth: Machine,
-    pub left: u64,
-    pub passes: u64,
-    pub turns: u64,
+    pub counts: Counts,
 }
 
 // What a run of four stations answers.
@@ -181,14 +185,15 @@ fn run_all(
     let second = p.second;
     let third = p.third;
     let fourth = p.fourth;
+    let counts = p.counts;
     FourStates {
         first,
         second,
         third,
         fourth,
         answer: StationsAnswer::Ran {
-            turns: p.turns,
-            left: p.left,
+            turns: counts.turns,
+            left: counts.left,
         },
     }
 }

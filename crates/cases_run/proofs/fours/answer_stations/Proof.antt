@@ -45,28 +45,28 @@ returns : tie.Need-returns
 returns c = search needs
 
 array-borrow-prefix-history0 : tie.Need-array-borrow-prefix-history0
-array-borrow-prefix-history0 c = c .before .before .before .before .before .before .before .before .before .before .before .before .before .before .before .before .before .before .before .before .before .before .before .before .before .before .load-station .ensures
+array-borrow-prefix-history0 c = c .before .before .before .before .before .before .before .before .before .before .before .before .before .before .before .before .before .before .before .before .before .before .before .before .before .before .before .before .before .before .before .before .before .before .before .before .before .before .before .before .load-station .ensures
 
 slice-aggregate-run-four : tie.Need-slice-aggregate-run-four
-slice-aggregate-run-four c = sym (length-take-le _ _ (c .before .before .before .before .before .before .before .before .before .before .before .before .before .before .before .before .before .before .before .before .before .before .before .before .before .before .before .load-station .ensures))
+slice-aggregate-run-four c = sym (length-take-le _ _ (c .before .before .before .before .before .before .before .before .before .before .before .before .before .before .before .before .before .before .before .before .before .before .before .before .before .before .before .before .before .before .before .before .before .before .before .before .before .before .before .before .before .load-station .ensures))
 
 array-borrow-prefix-history1 : tie.Need-array-borrow-prefix-history1
-array-borrow-prefix-history1 c = c .before .before .before .before .before .before .before .before .before .before .before .before .before .before .before .before .before .before .before .before .before .before .before .load-station2 .ensures
+array-borrow-prefix-history1 c = c .before .before .before .before .before .before .before .before .before .before .before .before .before .before .before .before .before .before .before .before .before .before .before .before .before .before .before .before .before .before .before .before .before .before .before .load-station2 .ensures
 
 slice-aggregate-run-four-2 : tie.Need-slice-aggregate-run-four-2
-slice-aggregate-run-four-2 c = sym (length-take-le _ _ (c .before .before .before .before .before .before .before .before .before .before .before .before .before .before .before .before .before .before .before .before .before .before .before .before .load-station2 .ensures))
+slice-aggregate-run-four-2 c = sym (length-take-le _ _ (c .before .before .before .before .before .before .before .before .before .before .before .before .before .before .before .before .before .before .before .before .before .before .before .before .before .before .before .before .before .before .before .before .before .before .before .before .load-station2 .ensures))
 
 array-borrow-prefix-history2 : tie.Need-array-borrow-prefix-history2
-array-borrow-prefix-history2 c = c .before .before .before .before .before .before .before .before .before .before .before .before .before .before .before .before .before .before .before .before .load-station3 .ensures
+array-borrow-prefix-history2 c = c .before .before .before .before .before .before .before .before .before .before .before .before .before .before .before .before .before .before .before .before .before .before .before .before .before .before .before .before .before .before .load-station3 .ensures
 
 slice-aggregate-run-four-3 : tie.Need-slice-aggregate-run-four-3
-slice-aggregate-run-four-3 c = sym (length-take-le _ _ (c .before .before .before .before .before .before .before .before .before .before .before .before .before .before .before .before .before .before .before .before .before .load-station3 .ensures))
+slice-aggregate-run-four-3 c = sym (length-take-le _ _ (c .before .before .before .before .before .before .before .before .before .before .before .before .before .before .before .before .before .before .before .before .before .before .before .before .before .before .before .before .before .before .before .load-station3 .ensures))
 
 array-borrow-prefix-history3 : tie.Need-array-borrow-prefix-history3
-array-borrow-prefix-history3 c = c .before .before .before .before .before .before .before .before .before .before .before .before .before .before .before .before .before .load-station4 .ensures
+array-borrow-prefix-history3 c = c .before .before .before .before .before .before .before .before .before .before .before .before .before .before .before .before .before .before .before .before .before .before .before .before .before .load-station4 .ensures
 
 slice-aggregate-run-four-4 : tie.Need-slice-aggregate-run-four-4
-slice-aggregate-run-four-4 c = sym (length-take-le _ _ (c .before .before .before .before .before .before .before .before .before .before .before .before .before .before .before .before .before .before .load-station4 .ensures))
+slice-aggregate-run-four-4 c = sym (length-take-le _ _ (c .before .before .before .before .before .before .before .before .before .before .before .before .before .before .before .before .before .before .before .before .before .before .before .before .before .before .load-station4 .ensures))
 
 run-four-requires : tie.Need-run-four-requires
 run-four-requires c κs = search needs

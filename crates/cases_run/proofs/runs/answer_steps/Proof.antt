@@ -14,8 +14,8 @@ abbrev μ-loop : tie.MeasureT-loop
 μ-loop rule script rule64 script64 is-wide inputs count history₀ m₀ ready₀ i₀ t12 t13 history m ready i =
     count - i
 
-fresh-in-requires : tie.Need-fresh-in-requires Inv-loop μ-loop
-fresh-in-requires c κs = search needs
+fresh-either-requires : tie.Need-fresh-either-requires Inv-loop μ-loop
+fresh-either-requires c κs = search needs
 
 count-ready-requires : tie.Need-count-ready-requires Inv-loop μ-loop
 count-ready-requires c κs = search needs
@@ -26,8 +26,8 @@ loop-holds c = search needs
 add-i : tie.Need-add-i Inv-loop μ-loop
 add-i c = search needs
 
-step-in-requires : tie.Need-step-in-requires Inv-loop μ-loop
-step-in-requires c κs = search needs
+step-either-requires : tie.Need-step-either-requires Inv-loop μ-loop
+step-either-requires c κs = search needs
 
 count-ready-requires-2 : tie.Need-count-ready-requires-2 Inv-loop μ-loop
 count-ready-requires-2 c κs = search needs
@@ -68,11 +68,11 @@ answer-steps-spec =
     (tie.spec
     Inv-loop
     μ-loop
-    fresh-in-requires
+    fresh-either-requires
     count-ready-requires
     loop-holds
     add-i
-    step-in-requires
+    step-either-requires
     count-ready-requires-2
     loop-less
     loop-again
