@@ -2,12 +2,12 @@
  * The presentation guard, for C and C++.
  *
  * Link libguard.a (written by `rt staticlib guard` into target/staticlib; x86-64 Linux), and for the functions over the second form and
- * the moves libguard64.a (`rt staticlib guard64`); a program may link both. They need no other library, keep nothing between calls,
- * allocate nothing, and may be called from several threads at once.
+ * the moves libguard64.a (`rt staticlib guard64`); guard_stations is in libguard_four.a, guard_stations64 in libguard_four64.a. A program may
+ * link all of them. They need no other library, keep nothing between calls, allocate nothing, and may be called from several threads at once.
  *
  * Every function here is proved: for each input it ends, reads and writes only what is lent to it, and answers what
- * crates/spec/specs says, a move what crates/moves/specs says, a run of four stations what crates/turns/specs says (crates/guard/src/lib.rt
- * and crates/guard64/src have the contracts).
+ * crates/spec/specs says, a move what crates/moves/specs says, a run of four stations what crates/turns/specs says (the src folders of
+ * crates guard, guard64, guard_four and guard_four64 have the contracts).
  *
  * LENT MEMORY. Each array comes as a pointer and its length in elements, not in bytes. A pointer is aligned for its elements and
  * is not null, also where the length is 0 (any aligned address serves then). `const` arrays are only read. An array that a
@@ -111,8 +111,8 @@ enum guard_stack {
     GUARD_STACK_FACTS = 58496,
     GUARD_STACK_JUDGE = 512,
     GUARD_STACK_RUN = 1280,
-    GUARD_STACK_FRESH = 640,
-    GUARD_STACK_STEP = 1152,
+    GUARD_STACK_FRESH = 512,
+    GUARD_STACK_STEP = 896,
     GUARD_STACK_STATIONS = 3072,
     GUARD_STACK_TEXT64 = 2432,
     GUARD_STACK_RULE64 = 256,
@@ -122,8 +122,8 @@ enum guard_stack {
     GUARD_STACK_FACTS64 = 58240,
     GUARD_STACK_JUDGE64 = 256,
     GUARD_STACK_RUN64 = 1024,
-    GUARD_STACK_FRESH64 = 384,
-    GUARD_STACK_STEP64 = 896,
+    GUARD_STACK_FRESH64 = 256,
+    GUARD_STACK_STEP64 = 640,
     GUARD_STACK_STATIONS64 = 3072,
     GUARD_STACK_RULE_UP = 256,
     GUARD_STACK_RULE_BACK = 256,

@@ -1,6 +1,5 @@
-//! Links the proved code, `libguard.a` and `libguard64.a`. GUARD_LIB names their folder; without it, it is where `rt staticlib` writes them.
+//! Links the proved code, `libguard.a`, `libguard64.a`, `libguard_four.a` and `libguard_four64.a`. GUARD_LIB names their folder; without it, it is where `rt staticlib` writes them.
 use std::env;
-use std::fs;
 use std::path::PathBuf;
 
 fn main() {
@@ -12,12 +11,6 @@ fn main() {
     println!("cargo:rustc-link-search=native={}", folder.display());
     println!("cargo:rerun-if-changed={}", folder.join("libguard.a").display());
     println!("cargo:rustc-link-lib=static=guard");
-    // One from before 2026-10 has no functions for stations.
-    println!("cargo:rustc-check-cfg=cfg(without_stations)");
-    let stations = b"guard_stations";
-    if fs::read(folder.join("libguard.a")).is_ok_and(|library| !library.windows(stations.len()).any(|part| part == stations)) {
-        println!("cargo:rustc-cfg=without_stations");
-    }
     // A folder from before 2026-07, which the benchmark is held against, has no library for the second form.
     println!("cargo:rustc-check-cfg=cfg(first_form_alone)");
     let second = folder.join("libguard64.a");
@@ -26,5 +19,14 @@ fn main() {
         println!("cargo:rustc-link-lib=static=guard64");
     } else {
         println!("cargo:rustc-cfg=first_form_alone");
+    }
+    // One from before 2026-10 has none for four stations.
+    println!("cargo:rustc-check-cfg=cfg(without_stations)");
+    let stations = ["guard_four", "guard_four64"].map(|name| (name, folder.join(format!("lib{name}.a"))));
+    stations.iter().for_each(|(_, library)| println!("cargo:rerun-if-changed={}", library.display()));
+    if stations.iter().all(|(_, library)| library.exists()) {
+        stations.iter().for_each(|(name, _)| println!("cargo:rustc-link-lib=static={name}"));
+    } else {
+        println!("cargo:rustc-cfg=without_stations");
     }
 }

@@ -1,9 +1,9 @@
--- `guard64::guard_stations64` meets its contract (`FourLaws` of crate numbers). Assumes nothing.
+-- `guard_four64::guard_stations64` meets its contract (`FourLaws` of crate numbers). Assumes nothing.
 use Rattle.spec.specs.Rule.{form64}
 use Rattle.numbers.proofs.FourLaws.{run-four, stations-unlent, stations-noted}
 use borrow.Author.Needs.{needs}
-use Rattle.guard64.proofs.guard_stations64.Statement.{statement}
-use Rattle.guard64.proofs.guard_stations64.Tie as tie
+use Rattle.guard_four64.proofs.guard_stations64.Statement.{statement}
+use Rattle.guard_four64.proofs.guard_stations64.Tie as tie
 
 returns : tie.Need-returns
 returns c =

@@ -1,9 +1,9 @@
--- `guard::guard_stations` meets its contract (`FourLaws` of crate numbers). Assumes nothing.
+-- `guard_four::guard_stations` meets its contract (`FourLaws` of crate numbers). Assumes nothing.
 use Rattle.spec.specs.Rule.{form32}
 use Rattle.numbers.proofs.FourLaws.{run-four, stations-unlent, stations-noted}
 use borrow.Author.Needs.{needs}
-use Rattle.guard.proofs.guard_stations.Statement.{statement}
-use Rattle.guard.proofs.guard_stations.Tie as tie
+use Rattle.guard_four.proofs.guard_stations.Statement.{statement}
+use Rattle.guard_four.proofs.guard_stations.Tie as tie
 
 returns : tie.Need-returns
 returns c =
