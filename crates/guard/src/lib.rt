@@ -1,5 +1,6 @@
 // The guard for C and Rust to call: every entry point, on numbers and slices. include/guard.h says the same to a reader of C. Here are the
-// functions over document 01's stored form; crate guard64 has those over the second, and the moves between them.
+// functions over document 01's stored form; crate guard64 has those over the second, and the moves between them, crate guard_four a run of four
+// stations.
 // Each function hands back 0, or the number of the question that refused, or 99 where the lent words are fewer than it needs, and
 // writes its other numbers into the first of the lent words; later words stay. With 99 nothing is written anywhere.
 use checker::check_script;

@@ -355,6 +355,7 @@ fn run_counted(
     )
 }
 
+// Over document 01's stored form; of the words in the second form, which are not looked at, there is one.
 pub fn run_listed(
     count: usize,
     budget: u64,
@@ -412,6 +413,7 @@ pub fn run_listed(
     )
 }
 
+// Over the second.
 pub fn run_listed64(
     count: usize,
     budget: u64,
