@@ -42,7 +42,7 @@
  *
  * STACK. A proof knows nothing of the stack, so what a call takes was measured: on a painted stack, with rules as deeply nested as
  * 32 or 64 nodes allow, full scripts and random requests (reference/compare/tests/stack.rs, which also holds enum guard_stack to it).
- * The numbers are for libguard.a and libguard64.a, which are x86-64; another compiler's are its own. No call takes more for a longer input. Only
+ * The numbers are for the libraries named above, which are x86-64; another compiler's are its own. No call takes more for a longer input. Only
  * guard_weave and guard_weave64 call themselves inside, once for each implies that has a node in its left operand; guard_facts and guard_facts64 have the notes
  * of their search there, 57 KB, so they take the most.
  */
