@@ -3,3 +3,4 @@ pub mod TruthLaws
 pub mod TestLaws
 pub mod ReasonLaws
 pub mod LimitsLaws
+pub mod LimitsCases
