@@ -54,7 +54,7 @@ pub cases : List Case
 cases =
     -- a since that may have started: open, open by its last value, open by both, false; later bytes stay
     case sinceRule (state 0 0 ++ state 1 0 ++ state 0 0 ++ state 0 0) (state 0 1 ++ state 1 0 ++ state 1 0 ++ state 0 0) (9 ∷ 9 ∷ 9 ∷ 9 ∷ 9 ∷ [])
-        (passed 4) (2 ∷ 2 ∷ 2 ∷ 0 ∷ 9 ∷ [])
+    (passed 4) (2 ∷ 2 ∷ 2 ∷ 0 ∷ 9 ∷ [])
     -- exact limits
     ∷ case sinceRule (state 0 1 ++ state 1 0 ++ state 0 0) (state 0 1 ++ state 1 0 ++ state 0 0) (9 ∷ 9 ∷ 9 ∷ []) (passed 3) (1 ∷ 1 ∷ 0 ∷ [])
     -- each operand by itself: open implies open is open, though it is one node

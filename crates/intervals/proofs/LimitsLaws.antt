@@ -247,8 +247,8 @@ module _ (form : Form) (rule lows highs out : List ℕ) (n : ℕ) (e : limiting 
       then-passed (checkRule form rule) _ (asked .rule-yes) ∙ then-passed (question14 lows) _ (asked .lows-whole) ∙ then-passed (question15 lows) _ (asked .lows-small)
       ∙ ap (λ k. passed (verdictFrom k (firstFailing k 0 (λ i. holds σ φ i)))) (length-states (stateCount lows) lows)
       ∙ ap (λ o. passed (verdictFrom (stateCount lows) o)) (first-same (stateCount lows) 0 (λ i. holds σ φ i) (λ i. eqb (getD answers i 2) 1) (λ i a b.
-          let b′ : i < stateCount lows = omega arith in
-          sym (ap (λ x. eqb x 1) (answer-at i b′) ∙ ap (λ hs. eqb (byteOf (truthAt σ (statesOf hs) φ i)) 1) (sym z) ∙ ap (λ v. eqb (byteOf v) 1) (exact σ φ i) ∙ one-known (holds σ φ i))))
+      let b′ : i < stateCount lows = omega arith in
+      sym (ap (λ x. eqb x 1) (answer-at i b′) ∙ ap (λ hs. eqb (byteOf (truthAt σ (statesOf hs) φ i)) 1) (sym z) ∙ ap (λ v. eqb (byteOf v) 1) (exact σ φ i) ∙ one-known (holds σ φ i))))
 
   pub right : LimitsRight form rule lows highs answers
   unfolding ruleTruth

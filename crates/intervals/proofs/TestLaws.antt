@@ -131,12 +131,11 @@ module _ (low high : State) (order : (r : ℕ) → registerOf low r ≤ register
   unfolding passes
   pair-inside r q x l m n a b c d =
       let s = set low r x in
-      let m′ : q < length s = omega (arith, length-set low r x) in
-      (
+      let m′ : q < length s = omega (arith, length-set low r x) in (
         set s q x,
         put-inside s (put-inside low lowest r x l a b) q x m′ c d,
         eq-eqb (registerOf (set s q x) r) (registerOf (set s q x) q)
-        (getD-set-other s q r x 0 n ∙ getD-set-same low r x 0 l ∙ sym (getD-set-same s q x 0 m′)),
+            (getD-set-other s q r x 0 n ∙ getD-set-same low r x 0 l ∙ sym (getD-set-same s q x 0 m′)),
       )
 
   -- one register of the lowest state raised to its highest value
@@ -199,8 +198,7 @@ module _ (low high : State) (order : (r : ℕ) → registerOf low r ≤ register
   pub test-reached : (a : Test) → InState a low → (b : Bool) → testCan a low high b ≡ true → Reached a b
   unfolding testCan passes
   test-reached (equal r c) l true e =
-      let (p, q) = and-both (leb (registerOf low r) c) (leb c (registerOf high r)) e in
-      (
+      let (p, q) = and-both (leb (registerOf low r) c) (leb c (registerOf high r)) e in (
         set low r c,
         put-inside low lowest r c l (leb-true (registerOf low r) c p) (leb-true c (registerOf high r) q),
         eq-eqb (registerOf (set low r c) r) c (getD-set-same low r c 0 l),
@@ -251,8 +249,8 @@ test-only (equalRegisters r q) s true e =
     ]
 test-only (equalRegisters r q) s false e =
     ne-eqb (registerOf s r) (registerOf s q) (λ z.
-        clash (or-right (eqb r q) _ (both-and (both-and (eq-eqb (registerOf s r) (registerOf s r) refl) (eq-eqb (registerOf s q) (registerOf s q) refl))
-        (eq-eqb (registerOf s r) (registerOf s q) z))) (not-true _ e))
+    clash (or-right (eqb r q) _ (both-and (both-and (eq-eqb (registerOf s r) (registerOf s r) refl) (eq-eqb (registerOf s q) (registerOf s q) refl))
+    (eq-eqb (registerOf s r) (registerOf s q) z))) (not-true _ e))
 
 pub test-known : (a : Test) (s : State) → test₃ a s s ≡ known (passes a s)
 test-known a s = open-one (testCan a s s) (passes a s) (test-can a s s s (λ r h. (le-refl (registerOf s r), le-refl (registerOf s r)))) (test-only a s)

@@ -1,0 +1,13 @@
+use mathlib.Core.Path.{refl}
+use Rattle.limits.proofs.MonitorLaws.{both-sides}
+use Rattle.limits.proofs.monitor.implies_can.Statement.{statement}
+use Rattle.limits.proofs.monitor.implies_can.Tie as tie
+use Rattle.limits.proofs.monitor.implies_can.Reads as reads
+use Rattle.limits.proofs.monitor.implies_can.Lts as lts
+
+-- src/monitor.rt:98:1
+returns : tie.Need-returns
+returns c = both-sides refl refl
+
+pub implies-can-spec : {M : Type 1} → statement M
+implies-can-spec = tie.close (tie.spec returns)
