@@ -31,6 +31,7 @@ ghost use Rattle.spec.specs.Machine.{running, reportOf, historyAfter};
 ghost use Rattle.spec.specs.Ready.{freshStateOf};
 ghost use Rattle.spec.specs.Weaver.{weaving, outputAfter};
 ghost use Rattle.largest.specs.Largest.{foundAnswer, foundOutput};
+ghost use Rattle.intervals.specs.Limits.{limiting, limitsOutput};
 ghost use Rattle.grammar.specs.Texting.{texting, countOf, outputOf};
 ghost use Rattle.numbers.specs.Numbers.{roomFor, tooShort, withWords, resultFor, checkedWords, countWords, verdictWords, reportWords};
 ghost use Rattle.numbers.specs.States.{stateLength, stateWords, isStated, stepResult, stepped};
@@ -132,6 +133,26 @@ pub extern "C" fn guard_judge(rule: &[u32], history: &[u16], numbers: &mut [u64]
         return 99;
     }
     note_verdict(verdict(rule, history), numbers)
+}
+
+// The rule on a history whose registers are known only within limits: questions 1 to 4; 14 of the lows, then the highs; 22; 13; 15 of the
+// lows, then the highs; 23. Two words: place, indices. The answers go to `out`, a byte an index: 0 false, 1 true, 2 open.
+#[no_mangle]
+pub extern "C" fn guard_limits(
+    rule: &[u32],
+    lows: &[u16],
+    highs: &[u16],
+    out: &mut [u8],
+    numbers: &mut [u64],
+) -> u32
+    ensures result { λ r. ⌜ r ≡ resultFor 2 (now (numbers .entry)) (limiting form32 (now (rule .entry)) (now (lows .entry)) (now (highs .entry)) (now (out .entry))) ⌝ }
+    ensures words { λ r. ⌜ now (numbers .exit) ≡ withWords 2 (countWords (limiting form32 (now (rule .entry)) (now (lows .entry)) (now (highs .entry)) (now (out .entry)))) (now (numbers .entry)) ⌝ }
+    ensures output { λ r. ⌜ now (out .exit) ≡ cond (roomFor 2 (now (numbers .entry))) (limitsOutput form32 (now (rule .entry)) (now (lows .entry)) (now (highs .entry)) (now (out .entry))) (now (out .entry)) ⌝ }
+{
+    if numbers.len() < 2 {
+        return 99;
+    }
+    note_count(limits::judge(rule, lows, highs, out), numbers)
 }
 
 // A run: questions 1 to 11, and 15 of the inputs, then steps from a fresh start. 22 words: place, stop, line, steps, presentations,

@@ -29,6 +29,7 @@ ghost use Rattle.spec.specs.Machine.{running, reportOf, historyAfter};
 ghost use Rattle.spec.specs.Ready.{freshStateOf};
 ghost use Rattle.spec.specs.Weaver.{weaving, outputAfter};
 ghost use Rattle.largest.specs.Largest.{foundAnswer, foundOutput};
+ghost use Rattle.intervals.specs.Limits.{limiting, limitsOutput};
 ghost use Rattle.grammar.specs.Texting.{texting, countOf, outputOf};
 ghost use Rattle.numbers.specs.Numbers.{roomFor, tooShort, withWords, resultFor, checkedWords, countWords, verdictWords, reportWords};
 ghost use Rattle.numbers.specs.States.{stateLength, stateWords, isStated, stepResult, stepped};
@@ -123,6 +124,24 @@ pub extern "C" fn guard_judge64(rule: &[u64], history: &[u16], numbers: &mut [u6
         return 99;
     }
     note_verdict(verdict64(rule, history), numbers)
+}
+
+#[no_mangle]
+pub extern "C" fn guard_limits64(
+    rule: &[u64],
+    lows: &[u16],
+    highs: &[u16],
+    out: &mut [u8],
+    numbers: &mut [u64],
+) -> u32
+    ensures result { λ r. ⌜ r ≡ resultFor 2 (now (numbers .entry)) (limiting form64 (now (rule .entry)) (now (lows .entry)) (now (highs .entry)) (now (out .entry))) ⌝ }
+    ensures words { λ r. ⌜ now (numbers .exit) ≡ withWords 2 (countWords (limiting form64 (now (rule .entry)) (now (lows .entry)) (now (highs .entry)) (now (out .entry)))) (now (numbers .entry)) ⌝ }
+    ensures output { λ r. ⌜ now (out .exit) ≡ cond (roomFor 2 (now (numbers .entry))) (limitsOutput form64 (now (rule .entry)) (now (lows .entry)) (now (highs .entry)) (now (out .entry))) (now (out .entry)) ⌝ }
+{
+    if numbers.len() < 2 {
+        return 99;
+    }
+    note_count(limits::judge64(rule, lows, highs, out), numbers)
 }
 
 #[no_mangle]
