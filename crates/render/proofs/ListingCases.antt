@@ -10,7 +10,7 @@ use Prim.Native.Nat.{ℕ, _/_, _%_}
 use lib.ListN.{take}
 use Rattle.spec.proofs.Compute.{everything}
 use Rattle.words.specs.Words.{wordAt}
-use Rattle.render.specs.Input.{wordsFrom, countIn}
+use Rattle.words.specs.Counted.{wordsFrom, countIn}
 use Rattle.print.specs.Decimal.{digitsFor, decimal, refusedText}
 use Rattle.print.specs.Written.{eachOf}
 use Rattle.render.specs.Text.{lineText, linesText, answerText}

@@ -25,9 +25,9 @@ use Rattle.print.specs.Decimal.{newline, number, refusedText}
 use Rattle.render.specs.Text.{lineText, linesText, answerText}
 use Rattle.print.specs.Written.{Added}
 use Rattle.print.proofs.AddedLaws.{loaded, front-is, each-same}
-use Rattle.render.specs.Input.{counted}
+use Rattle.words.specs.Counted.{counted}
 use Rattle.render.specs.Listing.{wovenText, listingOf}
-use Rattle.render.proofs.InputLaws.{length-counted}
+use Rattle.words.proofs.CountedLaws.{length-counted}
 
 pub lines-agree : (vs ws : List ℕ) (n : ℕ) → ((l : ℕ) → l < n → getD vs (8 * l) 0 ≡ getD ws (8 * l) 0)
     → linesText vs n ≡ linesText ws n

@@ -1,4 +1,3 @@
 // The listing of a woven script: from the bytes of an input to the bytes of the text.
-mod input;
 pub mod listing;
 mod text;

@@ -1,9 +1,9 @@
 // The listing of an input.
-use crate::input::load_counted;
 use crate::text::put_lines;
 use print::add_refused;
 use rule::answer::Counted;
 use weaver::weave;
+use words::counted::load_counted;
 ghost use mathlib.Core.Path.{_≡_};
 ghost use mathlib.Core.List.{_++_};
 ghost use lib.ListN.{length, drop};

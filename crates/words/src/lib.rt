@@ -1,7 +1,9 @@
-// Words of 32 bits in a sequence of bytes, high byte first.
+// Words of 32 bits in a sequence of bytes, high byte first; words that are counted.
 ghost use mathlib.Core.Path.{_≡_};
 ghost use Prim.Native.Nat.{_<_};
 ghost use Rattle.words.specs.Words.{wordAt};
+
+pub mod counted;
 
 fn wide(b: u8) -> u32
     ensures { λ r. ⌜ (r ≡ b) × (r < 256) ⌝ }

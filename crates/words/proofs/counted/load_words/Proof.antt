@@ -1,15 +1,15 @@
--- `render::input::load_words` meets its contract. The loop keeps: the first i words are written (`InputLaws`); the measure is how many are
+-- `words::counted::load_words` meets its contract. The loop keeps: the first i words are written (`CountedLaws`); the measure is how many are
 -- left. Assumes nothing.
 use mathlib.Core.Path.{_≡_, subst}
 use Prim.Native.Nat.{ℕ, _-_, _≤_}
 use native.Mathlib.Omega.{arith}
 use lib.ListN.{length}
 use borrow.Author.Needs.{needs}
-use Rattle.render.specs.Input.{wordsFrom}
+use Rattle.words.specs.Counted.{wordsFrom}
 use Rattle.print.specs.Written.{Added}
-use Rattle.render.proofs.InputLaws.{words-start, words-next}
-use Rattle.render.proofs.input.load_words.Statement.{statement}
-use Rattle.render.proofs.input.load_words.Tie as tie
+use Rattle.words.proofs.CountedLaws.{words-start, words-next}
+use Rattle.words.proofs.counted.load_words.Statement.{statement}
+use Rattle.words.proofs.counted.load_words.Tie as tie
 
 abbrev Inv-loop : tie.InvT-loop
 Inv-loop bytes at n out₀ i₀ out i =

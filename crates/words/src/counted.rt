@@ -1,9 +1,9 @@
-// The rule and the bare script in the bytes of an input.
-use words::word_at;
+// Words that are counted, in the bytes of an input.
+use crate::word_at;
 ghost use mathlib.Core.Path.{_≡_};
 ghost use Prim.Native.Nat.{_≤_};
 ghost use lib.ListN.{length};
-ghost use Rattle.render.specs.Input.{wordsFrom, countIn, counted};
+ghost use Rattle.words.specs.Counted.{wordsFrom, countIn, counted};
 ghost use Rattle.print.specs.Written.{Added};
 
 // How many words the count at word `at` counts.
@@ -34,7 +34,7 @@ fn load_words(bytes: &[u8], at: usize, n: usize, out: &mut [u32])
 }
 
 // The words that the count at word `at` counts, at most as many as the output has. Hands back how many.
-pub(crate) fn load_counted(bytes: &[u8], at: usize, out: &mut [u32]) -> usize
+pub fn load_counted(bytes: &[u8], at: usize, out: &mut [u32]) -> usize
     requires { ⌜ (at ≤ 1000000) × (length (now out) ≤ 1000000) ⌝ }
     ensures { λ r. ⌜ Added (counted (length (now (out .entry))) (now (bytes .entry)) at) 0 r (now (out .entry)) (now (out .exit)) ⌝ }
 {

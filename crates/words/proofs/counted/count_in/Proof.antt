@@ -1,8 +1,8 @@
--- `render::input::count_in` meets its contract: the count by cases (`InputLaws`). Assumes nothing.
+-- `words::counted::count_in` meets its contract: the count by cases (`CountedLaws`). Assumes nothing.
 use borrow.Author.Needs.{needs}
-use Rattle.render.proofs.InputLaws.{count-over, count-missing, count-there}
-use Rattle.render.proofs.input.count_in.Statement.{statement}
-use Rattle.render.proofs.input.count_in.Tie as tie
+use Rattle.words.proofs.CountedLaws.{count-over, count-missing, count-there}
+use Rattle.words.proofs.counted.count_in.Statement.{statement}
+use Rattle.words.proofs.counted.count_in.Tie as tie
 
 word-at-requires : tie.Need-word-at-requires
 word-at-requires c κs = search needs

@@ -1,4 +1,4 @@
--- The laws of `specs/Input.antt`.
+-- The laws of `specs/Counted.antt`.
 --     count-over, count-missing, count-there     a count by cases
 --     count-most, length-words, length-counted   how many words there are
 --     words-start, words-next                    words written one after another
@@ -10,9 +10,9 @@ use Prim.Native.Nat.{ℕ, zero, suc, _+_, _/_, _≤_, _<_}
 use native.Mathlib.Omega.{arith}
 use lib.ListN.{length, set, length-append}
 use borrow.Author.Tests.{le-leb, lt-leb}
 use Rattle.words.specs.Words.{wordAt}
 use Rattle.spec.proofs.BoolLaws.{le-or-lt}
-use Rattle.render.specs.Input.{wordsFrom, countIn, counted}
+use Rattle.words.specs.Counted.{wordsFrom, countIn, counted}
 use Rattle.print.specs.Written.{Added}
 use Rattle.print.proofs.AddedLaws.{added-as, added-none, added-byte}
 

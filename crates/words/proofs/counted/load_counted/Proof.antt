@@ -1,15 +1,15 @@
--- `render::input::load_counted` meets its contract: as many words as are counted, which the output has space for (`InputLaws`).
+-- `words::counted::load_counted` meets its contract: as many words as are counted, which the output has space for (`CountedLaws`).
 -- Assumes nothing.
 use mathlib.Core.Path.{ap}
 use Prim.Native.Nat.{ℕ, _+_}
 use native.Mathlib.Omega.{arith}
 use lib.ListN.{length}
 use borrow.Author.Needs.{needs}
-use Rattle.render.specs.Input.{wordsFrom, countIn}
+use Rattle.words.specs.Counted.{wordsFrom, countIn}
 use Rattle.print.proofs.AddedLaws.{added-as}
-use Rattle.render.proofs.InputLaws.{count-most}
-use Rattle.render.proofs.input.load_counted.Statement.{statement}
-use Rattle.render.proofs.input.load_counted.Tie as tie
+use Rattle.words.proofs.CountedLaws.{count-most}
+use Rattle.words.proofs.counted.load_counted.Statement.{statement}
+use Rattle.words.proofs.counted.load_counted.Tie as tie
 
 count-in-requires : tie.Need-count-in-requires
 count-in-requires c κs = search needs

@@ -1,0 +1,2 @@
+-- Counts and words in the bytes of an input.
+pub mod CountedLaws
