@@ -27,7 +27,7 @@ fn digit_of(n: usize) -> u8
 }
 
 // The digits of n at `at`. Hands back where they end.
-fn add_decimal(n: usize, at: usize, out: &mut [u8]) -> usize
+pub fn add_decimal(n: usize, at: usize, out: &mut [u8]) -> usize
     requires { ⌜ at + length (decimal n) ≤ length (now out) ⌝ }
     ensures { λ r. ⌜ Added (decimal n) at r (now (out .entry)) (now (out .exit)) ⌝ }
 {

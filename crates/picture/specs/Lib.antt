@@ -1,0 +1,3 @@
+pub mod File
+pub mod Lines
+pub mod Picture
