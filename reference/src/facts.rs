@@ -144,6 +144,22 @@ pub enum Fault {
     ThreePassesEnd,
     /// A step does not end a row of passes.
     PassesAddUp,
+    /// Within limits, a since whose last value is open counts that as false.
+    SinceForgetsOpen,
+    /// A test is open where its limits are equal.
+    ExactIsOpen,
+    /// A register compared with itself is open.
+    SelfIsOpen,
+    /// A weak previous is open at index 0.
+    FirstPreviousOpen,
+    /// A node implies itself, also where it is open.
+    ImpliesItself,
+    /// 22 is put before 14 of the highs.
+    UnequalFirst,
+    /// 13 is put after 15 and 23.
+    BytesLast,
+    /// 23 is put before 15 of the highs.
+    OrderFirst,
 }
 
 thread_local! {

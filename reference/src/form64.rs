@@ -2,6 +2,7 @@
 //! their words of 32 bits.
 use crate::judge::{judge_in, Verdict};
 use crate::largest::find_facts_in;
+use crate::limits::judge_limits_in;
 use crate::machine::{nodes_in, run_in, step_stored_in, Machine, Ran};
 use crate::rule::{check_rule_in, Node, Rule};
 use crate::script::{check_bare_in, check_instructions_in, check_script_in, encode_lines_in, Line};
@@ -17,6 +18,10 @@ pub fn check_rule(words: &[u64]) -> Result<Rule, No> {
 
 pub fn judge<'a>(rule: &[u64], history: &'a [u16], direct: usize) -> Result<Verdict<'a>, No> {
     judge_in(rule, history, direct)
+}
+
+pub fn judge_limits(rule: &[u64], lows: &[u16], highs: &[u16], out: &mut [u8]) -> Result<usize, No> {
+    judge_limits_in(rule, lows, highs, out)
 }
 
 pub fn check_bare(rule: &[u64], words: &[u32]) -> Result<(Rule, Vec<Line>), No> {

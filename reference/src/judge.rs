@@ -60,6 +60,14 @@ pub fn first_false_direct(rule: &Rule, history: &[State]) -> usize {
     (0..history.len()).find(|&n| !t[rule.last()][n]).unwrap_or(history.len())
 }
 
+/// 14. Is the length a multiple of 16?
+pub fn check_length(numbers: &[u16]) -> Result<(), No> {
+    if numbers.len() % 16 != 0 {
+        return no(14, 0);
+    }
+    Ok(())
+}
+
 /// 15. Are all numbers at most 16,383?
 pub fn check_numbers(numbers: &[u16]) -> Result<(), No> {
     match numbers.iter().position(|&x| x > TOP) {
@@ -71,10 +79,7 @@ pub fn check_numbers(numbers: &[u16]) -> Result<(), No> {
 /// Questions 1 to 4, 14 and 15, then the verdict. Histories of up to `direct` states go by the table of kinds.
 pub fn judge_in<'a, W: Word>(rule: &[W], history: &'a [u16], direct: usize) -> Result<Verdict<'a>, No> {
     let rule = check_rule_in(rule)?;
-    // 14. Is the length a multiple of 16?
-    if history.len() % 16 != 0 {
-        return no(14, 0);
-    }
+    check_length(history)?;
     check_numbers(history)?;
     let all = states(history);
     let index = if all.len() <= direct { first_false_direct(&rule, &all) } else { first_false_kept(&rule, &all) };

@@ -1,5 +1,6 @@
 //! A second implementation of the presentation guard, written from the specification alone and independent of the proved
 //! code: clarity before speed. Where the two differ, one of them has misread a sentence.
+pub mod enumerate;
 pub mod facts;
 pub mod form;
 pub mod form64;
@@ -7,6 +8,7 @@ pub mod generate;
 pub mod generate_text;
 pub mod judge;
 pub mod largest;
+pub mod limits;
 pub mod listing;
 pub mod machine;
 pub mod moves;

@@ -4,12 +4,13 @@ use crate::script::{check_bare, MOST_LINES};
 use crate::weave::weave_lines;
 use crate::{no, No};
 
-struct Words<'a> {
-    bytes: &'a [u8],
+/// A program's input: words of 32 bits, high byte first.
+pub(crate) struct Words<'a> {
+    pub bytes: &'a [u8],
 }
 
 impl Words<'_> {
-    fn next(&mut self) -> Option<u32> {
+    pub fn next(&mut self) -> Option<u32> {
         // A word cut short is a missing word.
         let (word, rest) = self.bytes.split_first_chunk::<4>()?;
         self.bytes = rest;
@@ -17,7 +18,7 @@ impl Words<'_> {
     }
 
     /// A count from 1 to `most`, and that many words.
-    fn counted(&mut self, most: usize) -> Option<Vec<u32>> {
+    pub fn counted(&mut self, most: usize) -> Option<Vec<u32>> {
         let n = self.next()? as usize;
         if n < 1 || n > most {
             return None;

@@ -32,7 +32,7 @@ pub struct Readiness {
 }
 
 /// The registers that a node's test reads; a number above 15 is no register's.
-fn reads(d: &Node) -> Vec<usize> {
+pub(crate) fn reads(d: &Node) -> Vec<usize> {
     let registers = match d.kind {
         1 | 2 => vec![d.register as usize],
         6 => vec![d.register as usize, d.constant as usize],
