@@ -1,5 +1,6 @@
 //! Links the proved code, `libguard.a`, `libguard64.a`, `libguard_four.a` and `libguard_four64.a`. GUARD_LIB names their folder; without it, it is where `rt staticlib` writes them.
 use std::env;
+use std::fs;
 use std::path::PathBuf;
 
 fn main() {
@@ -9,7 +10,8 @@ fn main() {
         here.join("../../target/staticlib")
     });
     println!("cargo:rustc-link-search=native={}", folder.display());
-    println!("cargo:rerun-if-changed={}", folder.join("libguard.a").display());
+    let first = folder.join("libguard.a");
+    println!("cargo:rerun-if-changed={}", first.display());
     println!("cargo:rustc-link-lib=static=guard");
     // A folder from before 2026-07, which the benchmark is held against, has no library for the second form.
     println!("cargo:rustc-check-cfg=cfg(first_form_alone)");
@@ -28,5 +30,11 @@ fn main() {
         stations.iter().for_each(|(name, _)| println!("cargo:rustc-link-lib=static={name}"));
     } else {
         println!("cargo:rustc-cfg=without_stations");
+    }
+    // One from before 2026-11 has these libraries, but no function in them that judges within limits.
+    println!("cargo:rustc-check-cfg=cfg(without_limits)");
+    let (name, library) = (b"guard_limits", fs::read(first).unwrap_or_default());
+    if !library.windows(name.len()).any(|part| part == name) {
+        println!("cargo:rustc-cfg=without_limits");
     }
 }

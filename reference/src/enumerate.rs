@@ -1,7 +1,8 @@
-//! All small rules, all small limits, and the exact histories within these.
+//! All small rules, all small limits with the exact histories within these, and all ways to be refused there.
+use crate::form::Word;
 use crate::limits::{Answer, Limits};
 use crate::rule::{check_rule, Node, Rule};
-use crate::State;
+use crate::{State, TOP};
 
 /// Every rule of up to so many nodes over registers 0 and 1 and small constants, with nodes shared in every way.
 pub fn every_rule(most: usize) -> Vec<Rule> {
@@ -112,4 +113,42 @@ pub fn hold_to_every_history(small: &Small, rule: &Rule, mut judge: impl FnMut(&
             met[3] += (answer != wanted) as u64;
         }
     }
+}
+
+/// The ways to be refused within limits, in the order in which they are put: the numbers, and the places that `refused_by` gives them.
+pub const REFUSALS: [(u32, usize); 11] = [(1, 0), (2, 3), (3, 2), (4, 1), (14, 0), (14, 0), (22, 0), (13, 0), (15, 20), (15, 9), (23, 4)];
+
+/// What is lent to be judged within limits.
+pub struct Refused<W> {
+    pub rule: Vec<W>,
+    pub lows: Vec<u16>,
+    pub highs: Vec<u16>,
+    pub out: Vec<u8>,
+}
+
+/// Three indices in which some of these ways to be refused are there at once, each a bit, the first the lowest.
+pub fn refused_by<W: Word>(ways: u32) -> Refused<W> {
+    let [count, fields, operands, used, low_length, high_length, unequal, room, low_number, high_number, order] =
+        std::array::from_fn(|way| ways >> way & 1 == 1);
+    let test = |register| Node::new(1, register, 1, 0, 0);
+    let mut nodes = vec![test(1), test(2)];
+    nodes.push(Node::new(4, 0, 0, 0, if operands { 2 } else { 0 }));
+    nodes.push(Node { zero: fields.into(), ..Node::new(3, 0, 0, 2, if used { 2 } else { 1 }) });
+    while count && nodes.len() <= W::MOST_NODES {
+        nodes.push(Node::new(5, 0, 0, nodes.len() as u8 - 1, 0));
+    }
+    let (mut lows, mut highs) = (vec![3; 48], vec![4; 48]);
+    if low_number {
+        lows[20] = TOP + 1;
+    }
+    if high_number {
+        highs[9] = u16::MAX;
+    }
+    if order {
+        (lows[4], highs[4]) = (5, 4);
+    }
+    highs.resize(if unequal { 64 } else { 48 }, 4);
+    lows.resize(lows.len() + low_length as usize, 3);
+    highs.resize(highs.len() + high_length as usize, 4);
+    Refused { rule: nodes.iter().map(Node::encode_in).collect(), lows, highs, out: vec![9; if room { 2 } else { 3 }] }
 }

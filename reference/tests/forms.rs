@@ -11,7 +11,7 @@ use reference::ready::Readiness;
 use reference::rule::Node;
 use reference::script::{instruction_words, Line};
 use reference::weave::weave_lines;
-use reference::{form64, judge, largest, machine, no, rule, script, text, weave, No};
+use reference::{form64, judge, largest, limits, machine, no, rule, script, text, weave, No};
 
 /// Register 1 = 1 since register 2 = 1.
 const SINCE: [u64; 3] = [0x2200_0800_0000_0000, 0x2400_0800_0000_0000, 0x8000_0000_8000_0000];
@@ -481,6 +481,10 @@ fn both_forms_answer_alike() {
         for direct in [usize::MAX, 0] {
             assert_eq!(judge::judge(&r, &history[..length], direct), form64::judge(&wr, &history[..length], direct));
         }
+        let highs: Vec<u16> = history.iter().map(|low| low + g.below(3) as u16).collect();
+        let (mut out, mut wide_out) = ([9; 12], [9; 12]);
+        let judged = limits::judge_limits(&r, &history[..length], &highs, &mut out);
+        assert_eq!((judged, out), (form64::judge_limits(&wr, &history[..length], &highs, &mut wide_out), wide_out));
 
         let room = if g.chance(1, 6) { room - 1 } else { room };
         let (woven, out) = written(room, |out| weave::weave(&r, &bare, out));

@@ -1,15 +1,15 @@
 //! 2026-11, dials known only within limits: what it promises, by every exact history within small limits and on random ones, the registers
 //! that an answer depends on, refusals in their order, and the program that judges a file.
-use reference::enumerate::{enumerated, every_rule, hold_to_every_history, is_within, Small};
+use reference::enumerate::{enumerated, every_rule, hold_to_every_history, is_within, refused_by, Refused, Small, REFUSALS};
 use reference::facts::{with_planted_fault, Fault};
 use reference::form::Word;
 use reference::generate;
 use reference::judge::{judge_in, values_now};
-use reference::limits::{answers, answers_now, grounded, implies, judge_file, judge_limits, judge_limits_in, limits_of, since, test};
+use reference::limits::{answers, grounded, implies, judge_file, judge_limits, judge_limits_in, since, test};
 use reference::limits::{Answer, Grounded, Limits};
 use reference::random::Rng;
 use reference::rule::{check_rule, check_rule_in, Node, Rule};
-use reference::{form64, no, No, State, TOP};
+use reference::{form64, no, State, TOP};
 use std::collections::{BTreeMap, BTreeSet};
 use Answer::{False, Open, True};
 
@@ -56,12 +56,15 @@ fn three_values() {
     }
 }
 
-/// Every rule of up to three nodes, and all limits of two registers: at one index with values up to 3, at two up to 2, at four up to 1.
+/// So many indices, and the largest value of the two registers there.
+const SHAPES: [(usize, u16); 3] = [(1, 3), (2, 2), (3, 1)];
+
+/// Every rule of up to three nodes, and all limits of two registers.
 #[test]
 fn every_small_rule() {
     let rules = every_rule(3);
     let mut met = [0; 4];
-    for (indices, top) in [(1, 3), (2, 2), (4, 1)] {
+    for (indices, top) in SHAPES {
         let small = Small::new(indices, top);
         for rule in &rules {
             let judge = |limits: &[Limits]| answers(rule, limits).iter().map(|now| now[rule.last()]).collect();
@@ -108,7 +111,7 @@ fn changed(small: &Small, of: &[Limits], top: u16) -> Changed {
 #[test]
 fn every_small_rule_depends_on_these() {
     let mut met: BTreeMap<(Answer, usize), u64> = BTreeMap::new();
-    for (indices, top) in [(1, 3), (2, 2), (3, 1)] {
+    for (indices, top) in SHAPES {
         let small = Small::new(indices, top);
         let changed: Vec<Changed> = small.all.iter().map(|within| changed(&small, &within.limits, top)).collect();
         for rule in &every_rule(3) {
@@ -263,4 +266,301 @@ fn random_rules_in<W: Word>(seed: u64) {
 fn random_rules() {
     random_rules_in::<u32>(111);
     random_rules_in::<u64>(112);
+}
+
+/// Of the ways that are there at once the first is answered, and the output stays; where none is, there are three answers.
+fn first_is_answered<W: Word>(ways: u32) -> Result<(), String> {
+    let Refused { rule, lows, highs, mut out } = refused_by::<W>(ways);
+    let answer = judge_limits_in(&rule, &lows, &highs, &mut out);
+    let wanted = match REFUSALS.get(ways.trailing_zeros() as usize) {
+        Some(&(number, place)) => no(number, place),
+        None => Ok(3),
+    };
+    let untouched = out.iter().all(|&byte| byte == 9);
+    if answer != wanted || untouched != wanted.is_err() {
+        return Err(format!("{answer:?} and {out:?}, not {wanted:?}, for {ways:b}"));
+    }
+    Ok(())
+}
+
+/// Every order of two refusals, and of more: all sets of the ways to be refused.
+#[test]
+fn refusals_in_order() {
+    for ways in 0..1 << REFUSALS.len() {
+        first_is_answered::<u32>(ways).unwrap();
+        first_is_answered::<u64>(ways).unwrap();
+    }
+}
+
+/// The lowest place is answered, in its own list.
+#[test]
+fn places() {
+    let rule = [0x2200_0800];
+    let asked = |lows: &[(usize, u16)], highs: &[(usize, u16)]| {
+        let (mut low, mut high) = ([5; 32], [6; 32]);
+        lows.iter().for_each(|&(at, value)| low[at] = value);
+        highs.iter().for_each(|&(at, value)| high[at] = value);
+        judge_limits(&rule, &low, &high, &mut [0; 2])
+    };
+    assert_eq!(asked(&[(31, 16_384), (17, 65_535), (18, 16_384)], &[]), no(15, 17));
+    assert_eq!(asked(&[(31, 16_384)], &[(0, 16_384)]), no(15, 31));
+    assert_eq!(asked(&[], &[(30, 16_384), (31, 65_535)]), no(15, 30));
+    assert_eq!(asked(&[(8, 7), (9, 7)], &[(7, 4)]), no(23, 7));
+    assert_eq!(asked(&[(31, 7)], &[]), no(23, 31));
+    // equal limits are no refusal, up to the largest number
+    assert_eq!(asked(&[(0, 6), (31, TOP)], &[(15, 5), (31, TOP)]), Ok(2));
+    assert_eq!(asked(&[(0, 0)], &[(0, TOP)]), Ok(2));
+}
+
+/// What a test answers where some registers have these limits; the others have every value.
+fn of_test(kind: u8, register: u8, constant: u16, limits: &[(usize, u16, u16)]) -> Answer {
+    let mut at = Limits { low: [0; 16], high: [TOP; 16] };
+    limits.iter().for_each(|&(r, low, high)| (at.low[r], at.high[r]) = (low, high));
+    test(&Node::new(kind, register, constant, 0, 0), &at)
+}
+
+#[test]
+fn tests_at_their_limits() {
+    for (low, high, equal, below) in [
+        (5, 5, True, False),
+        (4, 4, False, True),
+        (6, 6, False, False),
+        (4, 5, Open, Open),
+        (5, 6, Open, False),
+        (3, 4, False, True),
+        (6, 9, False, False),
+        (0, TOP, Open, Open),
+        (0, 4, False, True),
+        (5, TOP, Open, False),
+        (6, TOP, False, False),
+    ] {
+        assert_eq!(of_test(1, 15, 5, &[(15, low, high)]), equal, "{low} {high}");
+        assert_eq!(of_test(2, 15, 5, &[(15, low, high)]), below, "{low} {high}");
+    }
+    // the ends of a register
+    assert_eq!([of_test(1, 0, 0, &[]), of_test(1, 0, TOP, &[]), of_test(2, 0, 0, &[]), of_test(2, 0, TOP, &[])], [Open, Open, False, Open]);
+    assert_eq!([of_test(1, 0, 0, &[(0, 0, 0)]), of_test(1, 0, TOP, &[(0, TOP, TOP)])], [True, True]);
+    assert_eq!([of_test(2, 0, TOP, &[(0, 0, TOP - 1)]), of_test(2, 0, TOP, &[(0, TOP, TOP)])], [True, False]);
+}
+
+#[test]
+fn two_registers_at_their_limits() {
+    for (one, other, answer) in [
+        ((3, 3), (3, 3), True),
+        ((3, 3), (4, 4), False),
+        ((3, 4), (5, 6), False),
+        ((3, 5), (5, 6), Open),
+        ((3, 3), (3, 4), Open),
+        ((3, 3), (2, 3), Open),
+        ((3, 3), (2, 4), Open),
+        ((3, 4), (3, 4), Open),
+        ((0, TOP), (7, 7), Open),
+        ((0, TOP), (0, TOP), Open),
+        ((TOP, TOP), (TOP, TOP), True),
+        ((0, TOP - 1), (TOP, TOP), False),
+    ] {
+        assert_eq!(of_test(6, 0, 15, &[(0, one.0, one.1), (15, other.0, other.1)]), answer, "{one:?} {other:?}");
+        assert_eq!(of_test(6, 15, 0, &[(0, one.0, one.1), (15, other.0, other.1)]), answer, "{other:?} {one:?}");
+        // a dial always equals itself
+        assert_eq!(of_test(6, 15, 15, &[(15, one.0, one.1)]), True);
+    }
+}
+
+const FALSE: Node = Node { kind: 0, register: 0, constant: 0, left: 0, right: 0, zero: 0 };
+
+/// Register k = 1.
+const fn is_one(register: u8) -> Node {
+    Node { kind: 1, register, constant: 1, ..FALSE }
+}
+
+const fn join(kind: u8, left: u8, right: u8) -> Node {
+    Node { kind, left, right, ..FALSE }
+}
+
+/// The registers of an index that are not 0, with their lowest and highest values.
+type Index<'a> = &'a [(usize, u16, u16)];
+
+fn limits_at(history: &[Index]) -> Vec<Limits> {
+    let limits = |index: &Index| {
+        let mut at = Limits::exact([0; 16]);
+        index.iter().for_each(|&(r, low, high)| (at.low[r], at.high[r]) = (low, high));
+        at
+    };
+    history.iter().map(limits).collect()
+}
+
+/// A file of a rule and limits.
+fn file(nodes: &[Node], history: &[Index]) -> Vec<u8> {
+    let mut bytes = (nodes.len() as u32).to_be_bytes().to_vec();
+    bytes.extend(nodes.iter().flat_map(|node| node.encode().to_be_bytes()));
+    bytes.extend((history.len() as u32).to_be_bytes());
+    bytes.extend(limits_at(history).iter().flat_map(|at| [at.low, at.high].concat()).flat_map(u16::to_be_bytes));
+    bytes
+}
+
+/// What is printed of a file, without the line that counts its indices.
+fn printed(nodes: &[Node], history: &[Index]) -> String {
+    let text = judge_file(&file(nodes, history));
+    text.strip_prefix(&format!("indices {}\n", history.len())).unwrap_or(&text).into()
+}
+
+/// The registers of each that are known to be 0 or 1, and that may be either.
+const ZERO: (usize, u16, u16) = (1, 0, 0);
+const ONE: (usize, u16, u16) = (1, 1, 1);
+const EITHER: (usize, u16, u16) = (1, 0, 1);
+const OTHER_ZERO: (usize, u16, u16) = (2, 0, 0);
+const OTHER_ONE: (usize, u16, u16) = (2, 1, 1);
+const OTHER_EITHER: (usize, u16, u16) = (2, 0, 1);
+
+#[test]
+fn files_with_one_index() {
+    let implied = [is_one(1), is_one(2), join(3, 0, 1)];
+    for (nodes, index, text) in [
+        (&[FALSE][..], &[][..], "0 false\n"),
+        (&[is_one(1)], &[ZERO], "0 false r1\n"),
+        (&[is_one(1)], &[ONE], "0 true\n"),
+        (&[is_one(1)], &[EITHER], "0 open r1\n"),
+        (&[is_one(0)], &[(0, 0, 9)], "0 open r0\n"),
+        (&[is_one(15)], &[(15, 2, TOP)], "0 false r15\n"),
+        (&[Node { kind: 2, constant: 9, ..is_one(15) }], &[(15, 8, 9)], "0 open r15\n"),
+        (&[Node { kind: 6, constant: 0, ..is_one(15) }], &[(15, 1, 1)], "0 false r0 r15\n"),
+        (&[Node { kind: 6, constant: 9, ..is_one(10) }], &[(10, 0, 1)], "0 open r9 r10\n"),
+        // a register with itself, and its negation, depend on none
+        (&[Node { kind: 6, constant: 7, ..is_one(7) }], &[(7, 0, TOP)], "0 true\n"),
+        (&[Node { kind: 6, constant: 7, ..is_one(7) }, FALSE, join(3, 0, 1)], &[(7, 0, TOP)], "0 false\n"),
+        // false by both; open by those that are open
+        (&implied, &[ONE, OTHER_ZERO], "0 false r1 r2\n"),
+        (&implied, &[EITHER, OTHER_ZERO], "0 open r1\n"),
+        (&implied, &[ONE, OTHER_EITHER], "0 open r2\n"),
+        (&implied, &[EITHER, OTHER_EITHER], "0 open r1 r2\n"),
+        (&implied, &[EITHER, OTHER_ONE], "0 true\n"),
+        (&implied, &[ZERO, OTHER_EITHER], "0 true\n"),
+        // each operand by itself: what may be either does not imply itself
+        (&[is_one(1), join(3, 0, 0)], &[EITHER], "0 open r1\n"),
+        // a negation, of which the first that is true is named: register 1 is not 1, or register 2 is
+        (&[is_one(1), is_one(2), join(3, 0, 1), FALSE, join(3, 2, 3)], &[ZERO, OTHER_ONE], "0 false r1\n"),
+        (&[is_one(1), is_one(2), join(3, 0, 1), FALSE, join(3, 2, 3)], &[EITHER, OTHER_ONE], "0 false r2\n"),
+        // at index 0 a since has no last value, and a weak previous is true
+        (&[is_one(1), is_one(2), join(4, 0, 1)], &[ONE, OTHER_ZERO], "0 false r2\n"),
+        (&[is_one(1), is_one(2), join(4, 0, 1)], &[EITHER, OTHER_EITHER], "0 open r2\n"),
+        (&[is_one(1), join(5, 0, 0)], &[EITHER], "0 true\n"),
+    ] {
+        assert_eq!(printed(nodes, &[index]), text, "{nodes:?} {index:?}");
+    }
+}
+
+#[test]
+fn files_with_several_indices() {
+    let since = [is_one(1), is_one(2), join(4, 0, 1)];
+    // an open last value: it goes on while left is true, both go on while left is open, and it ends where left is false
+    let history: &[Index] = &[
+        &[OTHER_EITHER],
+        &[ONE],
+        &[EITHER],
+        &[ONE],
+        &[ZERO],
+        &[EITHER],
+        &[ONE, OTHER_ONE],
+        &[EITHER],
+        &[ONE],
+        &[ZERO, OTHER_EITHER],
+        &[ONE],
+    ];
+    let text = "0 open r2\n1 open r2\n2 open r1 r2\n3 open r1 r2\n4 false r1 r2\n5 false r1 r2\n6 true\n7 open r1\n8 open r1\n\
+                9 open r2\n10 open r2\n";
+    assert_eq!(printed(&since, history), text);
+    // left is never looked at where right is true
+    assert_eq!(printed(&since, &[&[EITHER, OTHER_ONE], &[ONE], &[ZERO, OTHER_ONE]]), "0 true\n1 true\n2 true\n");
+    let previous = [is_one(1), join(5, 0, 0)];
+    assert_eq!(printed(&previous, &[&[ZERO], &[EITHER], &[ONE], &[ZERO]]), "0 true\n1 false r1\n2 open r1\n3 true\n");
+    let twice = [is_one(1), join(5, 0, 0), join(5, 1, 0)];
+    assert_eq!(printed(&twice, &[&[EITHER], &[ZERO], &[ONE], &[ONE]]), "0 true\n1 true\n2 open r1\n3 false r1\n");
+    assert_eq!(printed(&previous, &[]), "");
+}
+
+const TOO_MANY: &str = "a file has at most 1000 indices here, and 64 bytes for each\n";
+
+/// Files cut short at every byte, and longer ones.
+#[test]
+fn files_cut_short() {
+    let (nodes, history): (_, &[Index]) = ([is_one(1), is_one(2), join(4, 0, 1)], &[&[ONE, OTHER_ONE], &[EITHER]]);
+    let whole = file(&nodes, history);
+    for length in 0..whole.len() {
+        let text = if length < 16 { "refused 1 0\n" } else { TOO_MANY };
+        assert_eq!(judge_file(&whole[..length]), text, "{length}");
+    }
+    for after in [&[][..], &[0], &[255; 64]] {
+        assert_eq!(judge_file(&[&whole[..], after].concat()), "indices 2\n0 true\n1 open r1\n");
+    }
+}
+
+#[test]
+fn files_with_counts() {
+    let with_counts = |nodes: u32, indices: u32, bytes: usize| {
+        let words = [&[nodes][..], &vec![0x2200_0800; nodes as usize % 64], &[indices]].concat();
+        judge_file(&[words.iter().flat_map(|word| word.to_be_bytes()).collect(), vec![0; bytes]].concat())
+    };
+    for nodes in [0, 33, 64, u32::MAX] {
+        assert_eq!(with_counts(nodes, 1, 64), "refused 1 0\n", "{nodes}");
+    }
+    assert_eq!(with_counts(32, 1, 64), "refused 4 0\n");
+    assert_eq!(with_counts(1, 0, 0), "indices 0\n");
+    let lines: String = (0..1000).map(|n| format!("{n} false r1\n")).collect();
+    assert_eq!(with_counts(1, 1000, 64_000), format!("indices 1000\n{lines}"));
+    for (indices, bytes) in [(1000, 63_999), (1001, 64_064), (1001, 64_000), (u32::MAX, 64_000), (1 << 26, 64_000), (1, 63), (1, 0)] {
+        assert_eq!(with_counts(1, indices, bytes), TOO_MANY, "{indices}");
+    }
+}
+
+/// The rule's questions come first, then the count of indices and their bytes, then 15 and 23.
+#[test]
+fn files_refused() {
+    let good: &[Index] = &[&[ONE], &[ZERO]];
+    let (wrong_low, wrong_high, wrong_order): (&[Index], &[Index], &[Index]) =
+        (&[&[(9, TOP, TOP + 1)], &[(3, 20_000, 5)]], &[&[(4, 2, 1)], &[(5, 0, TOP + 1)]], &[&[ONE], &[(15, 2, 1), (14, 9, 8)]]);
+    assert_eq!(printed(&[is_one(1)], wrong_low), "refused 15 19\n");
+    assert_eq!(printed(&[is_one(1)], wrong_high), "refused 15 21\n");
+    assert_eq!(printed(&[is_one(1)], wrong_order), "refused 23 30\n");
+    for (nodes, text) in [
+        (&[is_one(1), Node { kind: 7, ..FALSE }][..], "refused 2 1\n"),
+        (&[is_one(1), Node { kind: 6, constant: 16, ..FALSE }], "refused 2 1\n"),
+        (&[is_one(1), join(3, 0, 1)], "refused 3 1\n"),
+        (&[is_one(1), is_one(2), join(5, 0, 0)], "refused 4 1\n"),
+    ] {
+        for history in [good, wrong_low, wrong_high, wrong_order] {
+            let whole = file(nodes, history);
+            assert_eq!(judge_file(&whole), text);
+            assert_eq!(judge_file(&whole[..4 + 4 * nodes.len()]), text);
+        }
+    }
+    for history in [wrong_low, wrong_high, wrong_order] {
+        let whole = file(&[is_one(1)], history);
+        assert_eq!(judge_file(&whole[..whole.len() - 1]), TOO_MANY);
+    }
+}
+
+/// The functions of the two forms, by their names.
+#[test]
+fn two_forms() {
+    let nodes = [is_one(1), is_one(2), join(4, 0, 1)];
+    let limits = limits_at(&[&[OTHER_EITHER], &[ONE, OTHER_ONE], &[ZERO]]);
+    let (lows, highs): (Vec<State>, Vec<State>) = limits.iter().map(|at| (at.low, at.high)).unzip();
+    let (mut out, mut out_64) = ([9; 4], [9; 4]);
+    assert_eq!(judge_limits(&nodes.map(|node| node.encode_in()), &lows.concat(), &highs.concat(), &mut out), Ok(3));
+    assert_eq!(form64::judge_limits(&nodes.map(|node| node.encode_in()), &lows.concat(), &highs.concat(), &mut out_64), Ok(3));
+    assert_eq!((out, out_64), ([2, 1, 0, 9], [2, 1, 0, 9]));
+}
+
+/// One sentence of it made wrong: the promise notices, or the order of the refusals.
+#[test]
+fn planted_faults_are_noticed() {
+    for fault in [Fault::SinceForgetsOpen, Fault::ExactIsOpen, Fault::SelfIsOpen, Fault::FirstPreviousOpen, Fault::ImpliesItself] {
+        let g = &mut Rng(113);
+        let differs = (0..1_000).position(|_| with_planted_fault(fault, || promised::<u32>(g, &mut Cases::new())).is_err());
+        println!("{fault:?}: limits {}", differs.expect("it is noticed"));
+    }
+    for fault in [Fault::UnequalFirst, Fault::BytesLast, Fault::OrderFirst] {
+        let differs = |&ways: &u32| with_planted_fault(fault, || first_is_answered::<u32>(ways)).is_err();
+        println!("{fault:?}: refusals {:b}", (0..1 << REFUSALS.len()).find(differs).expect("it is noticed"));
+    }
 }

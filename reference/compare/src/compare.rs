@@ -4,19 +4,21 @@ use crate::face::{Face, PRESENTATIONS, READY, REGISTERS, STATE_NUMBERS};
 use crate::faced::Reference;
 use crate::proved::{library, Form};
 use crate::request::Request;
-use crate::requests::{moving, request, stations};
+use crate::requests::{limits, moving, request, stations};
 use reference::judge::{first_false_direct, states};
 use reference::rule::{check_rule_in, Rule};
 use std::collections::BTreeMap;
 
 /// What was met, by the functions' names: how many calls handed back each number, how the runs stopped, how many states of a run from a
-/// fresh start were ready and were not, by the definition, and how many calls were answered alike in both forms.
+/// fresh start were ready and were not, by the definition, how many indices within limits were false, true and open, and how many calls were
+/// answered alike in both forms.
 #[derive(Default, Debug)]
 pub struct Met {
     pub calls: u64,
     pub results: BTreeMap<(&'static str, u32), u64>,
     pub stops: BTreeMap<(&'static str, u64), u64>,
     pub ready: BTreeMap<(&'static str, bool), u64>,
+    pub indices: BTreeMap<(&'static str, u8), u64>,
     pub across: BTreeMap<&'static str, u64>,
 }
 
@@ -102,6 +104,25 @@ fn promised<W: Form>(called: &Request<W>) -> Result<Vec<bool>, String> {
     Ok(ready)
 }
 
+/// An exact history of at most so many states is looked at by the table of kinds.
+const DIRECT: usize = 24;
+
+/// What the proved code has answered within limits is right, by the table of kinds, for exact histories within: the lowest values, the
+/// highest, and the two by turns. Where limits are equal, nothing is open. Hands back the answers.
+fn right_within<W: Form>(called: &Request<W>) -> Result<Vec<u8>, String> {
+    let Request::Limits { rule, lows, highs, out, .. } = called else { return Ok(vec![]) };
+    let rule = check_rule_in(rule).map_err(|no| format!("its rule fails {}", no.number))?;
+    let by_turns = |first: &[u16], second: &[u16]| (0..first.len()).map(|k| if k % 2 == 0 { first[k] } else { second[k] }).collect();
+    for exact in [lows.clone(), highs.clone(), by_turns(lows, highs), by_turns(highs, lows)] {
+        let truth = rule.truth_table(&states(&exact[..exact.len().min(16 * DIRECT)])).swap_remove(rule.last());
+        let wrong = |(byte, truth): (&u8, bool)| *byte != truth as u8 && (*byte != 2 || lows == highs);
+        if let Some(n) = out.iter().zip(truth).position(wrong) {
+            return Err(format!("{} at index {n}, which is not so in {exact:?}", out[n]));
+        }
+    }
+    Ok(out[..lows.len() / 16].to_vec())
+}
+
 /// One request put to the proved code and to the reference: the first difference, proved first, if there is one.
 pub fn put<W: Form>(asked: &Request<W>, met: &mut Met) -> Result<(), String> {
     let (mut proved, mut reference) = (asked.clone(), asked.clone());
@@ -121,6 +142,9 @@ pub fn put<W: Form>(asked: &Request<W>, met: &mut Met) -> Result<(), String> {
         if result == 0 {
             for ready in promised(&proved)? {
                 *met.ready.entry((asked.function(), ready)).or_default() += 1;
+            }
+            for byte in right_within(&proved)? {
+                *met.indices.entry((asked.function(), byte)).or_default() += 1;
             }
         }
     }
@@ -199,13 +223,15 @@ fn put_first(n: u64, asked: &Request<u32>, met: &mut Met) -> Result<(), String> 
 
 /// So many requests of a seed in the first form, of which an eighth go to the second as well, a fifteenth as many in the second form, and
 /// a fortieth as many moves each way; for stations a sixtieth as many in the first form, of which an eighth go to the second as well, and
-/// half as many in the second. The first difference, or what was met.
+/// half as many in the second; within limits twice as many as for stations. The first difference, or what was met.
 pub fn compare(seed: u64, count: u64) -> Result<Met, String> {
     let mut met = Met::default();
     each::<u32>(count, |n| request(seed, n), |n, asked| put_first(n, asked, &mut met))?;
     each::<u64>(count / 15, |n| request(seed, n), |_, asked| put(asked, &mut met))?;
     each::<u32>(count / 60, |n| stations(seed, n), |n, asked| put_first(n, asked, &mut met))?;
     each::<u64>(count / 120, |n| stations(seed, n), |_, asked| put(asked, &mut met))?;
+    each::<u32>(count / 30, |n| limits(seed, n), |n, asked| put_first(n, asked, &mut met))?;
+    each::<u64>(count / 60, |n| limits(seed, n), |_, asked| put(asked, &mut met))?;
     each::<u32>(count / 40, |n| moving(seed, n), |_, asked| put(asked, &mut met).and_then(|_| there_and_back(asked, &mut met)))?;
     each::<u64>(count / 40, |n| moving(seed, n), |_, asked| put(asked, &mut met).and_then(|_| there_and_back(asked, &mut met)))?;
     Ok(met)

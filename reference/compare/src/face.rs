@@ -25,6 +25,7 @@ pub trait Face<W: Form> {
     fn weave(&self, rule: &[W], bare: &[u32], out: &mut [W], numbers: &mut [u64]) -> u32;
     fn facts(&self, rule: &[W], instructions: &[u32], out: &mut [W], numbers: &mut [u64]) -> u32;
     fn judge(&self, rule: &[W], history: &[u16], numbers: &mut [u64]) -> u32;
+    fn limits(&self, rule: &[W], lows: &[u16], highs: &[u16], out: &mut [u8], numbers: &mut [u64]) -> u32;
     fn run(&self, rule: &[W], script: &[W], inputs: &[u16], budget: u64, history: &mut [u16], numbers: &mut [u64]) -> u32;
     fn fresh(&self, rule: &[W], state: &mut [u64]) -> u32;
     fn step(&self, rule: &[W], script: &[W], inputs: &[u16], history: &mut [u16], state: &mut [u64]) -> u32;

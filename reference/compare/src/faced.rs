@@ -3,6 +3,7 @@ use crate::face::{Face, READY, REGISTERS, STATES_NUMBERS, STATE_NUMBERS};
 use crate::proved::Form;
 use reference::judge::judge_in;
 use reference::largest::find_facts_in;
+use reference::limits::judge_limits_in;
 use reference::machine::{fresh, nodes_in, run_in, step_stored_in, Machine, Ran, Stop};
 use reference::moves::{move_rule, move_script};
 use reference::ready::{Bits, Readiness};
@@ -41,7 +42,7 @@ fn checked<X>(numbers: &mut [u64], answer: impl FnOnce() -> Result<X, No>) -> u3
     answered(numbers, || answer().map(|_| [0]))
 }
 
-/// How many were written, of lines, of nodes or of facts.
+/// How many were written, of lines, of nodes, of facts or of answers.
 fn written(numbers: &mut [u64], answer: impl FnOnce() -> Result<usize, No>) -> u32 {
     answered(numbers, || answer().map(|count| [0, count as u64]))
 }
@@ -127,6 +128,10 @@ impl<W: Form> Face<W> for Reference {
             let index = verdict.index as u64;
             Ok(if verdict.part.is_empty() { [0, 0, 0, index] } else { [0, 1, index, 0] })
         })
+    }
+
+    fn limits(&self, rule: &[W], lows: &[u16], highs: &[u16], out: &mut [u8], numbers: &mut [u64]) -> u32 {
+        written(numbers, || judge_limits_in(rule, lows, highs, out))
     }
 
     fn run(&self, rule: &[W], script: &[W], inputs: &[u16], budget: u64, history: &mut [u16], numbers: &mut [u64]) -> u32 {

@@ -22,6 +22,7 @@ type Asks<X> = unsafe extern "C" fn(*const X, usize, *mut u64, usize) -> u32;
 type AsksTwo<X, Y> = unsafe extern "C" fn(*const X, usize, *const Y, usize, *mut u64, usize) -> u32;
 type Writes<X, Y> = unsafe extern "C" fn(*const X, usize, *mut Y, usize, *mut u64, usize) -> u32;
 type WritesOfTwo<X, Y, Z> = unsafe extern "C" fn(*const X, usize, *const Y, usize, *mut Z, usize, *mut u64, usize) -> u32;
+type JudgesLimits<X> = unsafe extern "C" fn(*const X, usize, *const u16, usize, *const u16, usize, *mut u8, usize, *mut u64, usize) -> u32;
 type Runs<X> = unsafe extern "C" fn(*const X, usize, *const X, usize, *const u16, usize, u64, *mut u16, usize, *mut u64, usize) -> u32;
 type Steps<X> = unsafe extern "C" fn(*const X, usize, *const X, usize, *const u16, usize, *mut u16, usize, *mut u64, usize) -> u32;
 
@@ -46,6 +47,7 @@ pub struct Library<W: Form> {
     pub weave: Function<WritesOfTwo<W, u32, W>>,
     pub facts: Function<WritesOfTwo<W, u32, W>>,
     pub judge: Function<AsksTwo<W, u16>>,
+    pub limits: Function<JudgesLimits<W>>,
     pub run: Function<Runs<W>>,
     pub fresh: Function<Asks<W>>,
     pub step: Function<Steps<W>>,
@@ -68,8 +70,8 @@ impl Form for u32 {
     type Other = u64;
     const LIBRARY: Library<u32> = library! {
         text: guard_text, rule: guard_rule, bare: guard_bare, script: guard_script, weave: guard_weave, facts: guard_facts,
-        judge: guard_judge, run: guard_run, fresh: guard_fresh, step: guard_step, stations: guard_stations, move_rule: guard_rule_up,
-        move_script: guard_script_up
+        judge: guard_judge, limits: guard_limits, run: guard_run, fresh: guard_fresh, step: guard_step, stations: guard_stations,
+        move_rule: guard_rule_up, move_script: guard_script_up
     };
 }
 
@@ -77,8 +79,8 @@ impl Form for u64 {
     type Other = u32;
     const LIBRARY: Library<u64> = library! {
         text: guard_text64, rule: guard_rule64, bare: guard_bare64, script: guard_script64, weave: guard_weave64, facts: guard_facts64,
-        judge: guard_judge64, run: guard_run64, fresh: guard_fresh64, step: guard_step64, stations: guard_stations64,
-        move_rule: guard_rule_back, move_script: guard_script_back
+        judge: guard_judge64, limits: guard_limits64, run: guard_run64, fresh: guard_fresh64, step: guard_step64,
+        stations: guard_stations64, move_rule: guard_rule_back, move_script: guard_script_back
     };
 }
 
@@ -87,6 +89,9 @@ pub const BOTH_FORMS: bool = cfg!(not(first_form_alone));
 
 /// Whether the library has the functions for stations: one from before 2026-10, which the benchmark is held against, has not.
 pub const STATIONED: bool = cfg!(not(without_stations));
+
+/// Whether the library judges within limits: one from before 2026-11, which the benchmark is held against, does not.
+pub const WITHIN_LIMITS: bool = cfg!(not(without_limits));
 
 /// Whether the library's states hold if a presentation would keep the rule: one from before 2026-08, which the benchmark is held against, has
 /// shorter states.
@@ -106,6 +111,9 @@ std::arch::global_asm!(
 
 #[cfg(without_stations)]
 std::arch::global_asm!(".globl guard_stations", ".globl guard_stations64", "guard_stations:", "guard_stations64:", "ud2");
+
+#[cfg(without_limits)]
+std::arch::global_asm!(".globl guard_limits", ".globl guard_limits64", "guard_limits:", "guard_limits64:", "ud2");
 
 /// The library's functions for a form that is told by the words.
 pub fn library<W: Form>() -> Library<W> {
@@ -143,6 +151,12 @@ impl<W: Form> Face<W> for Library<W> {
 
     fn judge(&self, rule: &[W], history: &[u16], numbers: &mut [u64]) -> u32 {
         unsafe { (self.judge.call)(rule.as_ptr(), rule.len(), history.as_ptr(), history.len(), numbers.as_mut_ptr(), numbers.len()) }
+    }
+
+    fn limits(&self, rule: &[W], lows: &[u16], highs: &[u16], out: &mut [u8], numbers: &mut [u64]) -> u32 {
+        let (l, low_count, h, high_count) = (lows.as_ptr(), lows.len(), highs.as_ptr(), highs.len());
+        let (o, space, n, count) = (out.as_mut_ptr(), out.len(), numbers.as_mut_ptr(), numbers.len());
+        unsafe { (self.limits.call)(rule.as_ptr(), rule.len(), l, low_count, h, high_count, o, space, n, count) }
     }
 
     fn run(&self, rule: &[W], script: &[W], inputs: &[u16], budget: u64, history: &mut [u16], numbers: &mut [u64]) -> u32 {

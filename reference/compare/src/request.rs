@@ -27,6 +27,7 @@ pub enum Request<W: Form> {
     Weave { rule: Vec<W>, bare: Vec<u32>, out: Lent<W>, numbers: Lent<u64> },
     Facts { rule: Vec<W>, instructions: Vec<u32>, out: Lent<W>, numbers: Lent<u64> },
     Judge { rule: Vec<W>, history: Vec<u16>, numbers: Lent<u64> },
+    Limits { rule: Vec<W>, lows: Vec<u16>, highs: Vec<u16>, out: Lent<u8>, numbers: Lent<u64> },
     Run { rule: Vec<W>, script: Vec<W>, inputs: Vec<u16>, budget: u64, history: Lent<u16>, numbers: Lent<u64> },
     Fresh { rule: Vec<W>, state: Lent<u64> },
     Steps { rule: Vec<W>, script: Vec<W>, inputs: Vec<u16>, history: Lent<u16>, state: Lent<u64>, count: usize },
@@ -47,6 +48,7 @@ impl<W: Form> Request<W> {
             Weave { .. } => library.weave.name,
             Facts { .. } => library.facts.name,
             Judge { .. } => library.judge.name,
+            Limits { .. } => library.limits.name,
             Run { .. } => library.run.name,
             Fresh { .. } => library.fresh.name,
             Steps { .. } => library.step.name,
@@ -77,6 +79,7 @@ impl<W: Form> Request<W> {
             Weave { rule, bare, out, numbers } => face.weave(rule, bare, out, numbers),
             Facts { rule, instructions, out, numbers } => face.facts(rule, instructions, out, numbers),
             Judge { rule, history, numbers } => face.judge(rule, history, numbers),
+            Limits { rule, lows, highs, out, numbers } => face.limits(rule, lows, highs, out, numbers),
             Run { rule, script, inputs, budget, history, numbers } => face.run(rule, script, inputs, *budget, history, numbers),
             Fresh { rule, state } => face.fresh(rule, state),
             Steps { rule, script, inputs, history, state, .. } => face.step(rule, script, inputs, history, state),
@@ -100,6 +103,7 @@ impl<W: Form> Request<W> {
                 vec![of("numbers", numbers), of("out", out)]
             }
             MoveRule { out, numbers, .. } | MoveScript { out, numbers, .. } => vec![of("numbers", numbers), of("out", out)],
+            Limits { out, numbers, .. } => vec![of("numbers", numbers), of("out", out)],
             Run { history, numbers, .. } => vec![of("numbers", numbers), of("history", history)],
             Fresh { state, .. } => vec![of("state", state)],
             Steps { history, state, .. } => vec![of("state", state), of("history", history)],
@@ -146,6 +150,7 @@ impl Request<u32> {
             | Weave { rule, .. }
             | Facts { rule, .. }
             | Judge { rule, .. }
+            | Limits { rule, .. }
             | Run { rule, .. }
                 if (33..=64).contains(&rule.len()) =>
             {
@@ -159,6 +164,7 @@ impl Request<u32> {
             Weave { rule, bare, out, numbers } => Weave { rule: of_rule(&rule), bare, out: out.map(Word::at_top), numbers },
             Facts { rule, instructions, out, numbers } => Facts { rule: of_rule(&rule), instructions, out: out.map(Word::at_top), numbers },
             Judge { rule, history, numbers } => Judge { rule: of_rule(&rule), history, numbers },
+            Limits { rule, lows, highs, out, numbers } => Limits { rule: of_rule(&rule), lows, highs, out, numbers },
             Run { rule, script, inputs, budget, history, numbers } => {
                 Run { rule: of_rule(&rule), script: of_lines(&script), inputs, budget, history, numbers }
             }

@@ -17,6 +17,7 @@ use reference::script::{check_script_in, encode_lines_in, instruction_words, Lin
 use reference::stations::STATIONS;
 use reference::text::read_text_in;
 use reference::weave::weave_lines;
+use reference::TOP;
 
 /// Lent words: as many as the function needs, or one short, one long, none, some more.
 fn numbers(g: &mut Rng, needed: usize) -> Lent<u64> {
@@ -549,16 +550,21 @@ fn text<W: Form>(g: &mut Rng) -> Request<W> {
     Request::Text { text, out, numbers: numbers(g, 2) }
 }
 
-/// As many words as are needed for something, or fewer or more.
-fn room<W: Form>(g: &mut Rng, needed: usize) -> Lent<W> {
-    let length = match g.below(12) {
+/// As many as are needed for something, or fewer or more.
+fn about(g: &mut Rng, needed: usize) -> usize {
+    match g.below(12) {
         0 | 1 => needed.saturating_sub(1),
         2 => needed + 1,
         3 => 0,
         4 => g.below(needed + 1),
         5 => needed + g.below(40),
         _ => needed,
-    };
+    }
+}
+
+/// About as many words as are needed for something.
+fn room<W: Form>(g: &mut Rng, needed: usize) -> Lent<W> {
+    let length = about(g, needed);
     any_words(g, length)
 }
 
@@ -774,6 +780,77 @@ pub fn stations<W: Form>(seed: u64, n: u64) -> Request<W> {
     let budget = turns(g, allowance, &stations);
     let length = if g.chance(1, 8) { g.pick(&[0, 25, 75, 99, 101, 125]) } else { STATES_NUMBERS };
     Request::Stations { states: any_words(g, length), budget, allowance, stations, numbers: numbers(g, 3) }
+}
+
+/// Limits of up to 30 indices, rarely of 400, about numbers that are larger by so much than those that random rules test: the lows and the
+/// highs. All dials are known exactly, or so many of eight are not; some are not known at all.
+fn lows_and_highs(g: &mut Rng, larger: u16) -> (Vec<u16>, Vec<u16>) {
+    let indices = if g.chance(1, 200) { 400 } else { g.below(31) };
+    let open = g.pick(&[0, 1, 1, 2, 4, 8]);
+    let (mut lows, mut highs) = (vec![], vec![]);
+    for k in 0..16 * indices {
+        let (tested, any) = (g.below(generate::CONSTANTS) as u16 + larger, g.below(TOP as usize + 1) as u16);
+        let value = if k % 16 < generate::REGISTERS { tested } else { any };
+        let (low, high) = match g.below(8) < open {
+            true if g.chance(1, 10) => (0, TOP),
+            true => (value, g.below(generate::CONSTANTS) as u16 + larger),
+            false => (value, value),
+        };
+        lows.push(low.min(high));
+        highs.push(low.max(high));
+    }
+    (lows, highs)
+}
+
+/// Some places of a list, one more often than several.
+fn places(g: &mut Rng, length: usize) -> Vec<usize> {
+    let count = if length == 0 { 0 } else { g.pick(&[1, 1, 2, 3]) };
+    (0..count).map(|_| g.below(length)).collect()
+}
+
+/// What fails 23, 15, 14 or 22, each by itself, so that they come together often.
+fn spoil_limits(g: &mut Rng, lows: &mut Vec<u16>, highs: &mut Vec<u16>) {
+    let often = |g: &mut Rng| g.chance(1, 5);
+    if often(g) {
+        for at in places(g, lows.len()) {
+            (lows[at], highs[at]) = g.pick(&[(1, 0), (TOP, 0), (TOP, TOP - 1), (highs[at] + 1, highs[at]), (highs[at], lows[at])]);
+        }
+    }
+    for list in [&mut *lows, &mut *highs] {
+        let length = list.len();
+        if often(g) {
+            places(g, length).into_iter().for_each(|at| list[at] = g.pick(&[16_384, 32_768, 65_535]));
+        }
+        if often(g) {
+            list.resize(g.pick(&[length + 1, length + 15, length + 17, length.saturating_sub(1), length.saturating_sub(17)]), 2);
+        } else if often(g) {
+            list.resize(g.pick(&[length + 16, length + 32, length.saturating_sub(16), 0]), 2);
+        }
+    }
+}
+
+/// Request number `n` of a seed for a history known within limits. Of every two the upper one has a rule in which nodes are used again.
+pub fn limits<W: Form>(seed: u64, n: u64) -> Request<W> {
+    let again = n % 2 == 1;
+    let g = &mut numbered(seed, n);
+    let mut rule = rule::<W>(g, again, 8).1;
+    // tests and limits about the largest numbers, sometimes
+    let larger = g.pick(&[0, 0, 0, TOP - generate::CONSTANTS as u16 + 1]);
+    for word in &mut rule {
+        let node = Node::decode_in(*word);
+        if matches!(node.kind, 1 | 2) {
+            *word = Node { constant: (node.constant + larger) & TOP, ..node }.encode_in();
+        }
+    }
+    let (mut lows, mut highs) = lows_and_highs(g, larger);
+    let length = if g.chance(1, 2) {
+        spoil_limits(g, &mut lows, &mut highs);
+        about(g, lows.len() / 16)
+    } else {
+        lows.len() / 16 + g.pick(&[0, 0, 0, 1, 7])
+    };
+    let out = (0..length).map(|_| g.next() as u8).collect::<Vec<_>>().into();
+    Request::Limits { rule, lows, highs, out, numbers: numbers(g, 2) }
 }
 
 /// What request number `n` of a seed is made from.

@@ -6,11 +6,12 @@ use compare::faced::Reference;
 use compare::lent::Lent;
 use compare::proved::{library, Form};
 use compare::request::{Request, Stationed};
-use compare::requests::{moving, request, stations};
+use compare::requests::{limits, moving, request, stations};
 use reference::facts::{all_facts, bit, first_facts, pass, with_planted_fault, Facts, Fault, A, B, C, M, T, W};
 use reference::judge::{first_priors, judge, next_priors, states, values_now};
 use reference::largest::find_facts;
-use reference::rule::{check_rule, Node, Rule};
+use reference::limits::{answers, limits_of, Answer, Limits};
+use reference::rule::{check_rule, check_rule_in, Node, Rule};
 use reference::script::{check_bare, check_instructions, check_script, check_script_in, Line};
 use reference::stations::STATIONS;
 use reference::weave::weave;
@@ -38,13 +39,16 @@ fn tell(met: &Met) {
     for ((name, ready), n) in &met.ready {
         println!("{n:>10}  {name}, by the definition {}", if *ready { "ready" } else { "not ready" });
     }
+    for ((name, answer), n) in &met.indices {
+        println!("{n:>10}  {name}, an index {}", ["false", "true", "open"][*answer as usize]);
+    }
     for (name, n) in &met.across {
         println!("{n:>10}  {name}, in both forms");
     }
 }
 
 /// The questions that each function puts, by the numbers that it can hand back besides 99.
-const QUESTIONS: [(&[&str], RangeInclusive<u32>, &[u32]); 15] = [
+const QUESTIONS: [(&[&str], RangeInclusive<u32>, &[u32]); 16] = [
     (&["guard_text", "guard_text64"], 0..=0, &[13, 16, 17, 18]),
     (&["guard_rule", "guard_rule64"], 0..=4, &[]),
     (&["guard_bare", "guard_bare64"], 0..=7, &[]),
@@ -52,6 +56,7 @@ const QUESTIONS: [(&[&str], RangeInclusive<u32>, &[u32]); 15] = [
     (&["guard_weave", "guard_weave64"], 0..=7, &[12, 13]),
     (&["guard_facts", "guard_facts64"], 0..=7, &[13, 19]),
     (&["guard_judge", "guard_judge64"], 0..=4, &[14, 15]),
+    (&["guard_limits", "guard_limits64"], 0..=4, &[13, 14, 15, 22, 23]),
     (&["guard_run", "guard_run64"], 0..=11, &[15]),
     (&["guard_fresh", "guard_fresh64"], 0..=0, &[]),
     (&["guard_step", "guard_step64"], 0..=0, &[98]),
@@ -152,6 +157,18 @@ fn planted_faults_are_noticed() {
         Fault::PassesAddUp,
     ] {
         println!("{fault:?}: stations {}, in the second form {}", noticed(fault, stations::<u32>), noticed(fault, stations::<u64>));
+    }
+    for fault in [
+        Fault::SinceForgetsOpen,
+        Fault::ExactIsOpen,
+        Fault::SelfIsOpen,
+        Fault::FirstPreviousOpen,
+        Fault::ImpliesItself,
+        Fault::UnequalFirst,
+        Fault::BytesLast,
+        Fault::OrderFirst,
+    ] {
+        println!("{fault:?}: limits {}, in the second form {}", noticed(fault, limits::<u32>), noticed(fault, limits::<u64>));
     }
     compare(SEED, 2_000).expect("without them there is no difference");
 }
@@ -816,6 +833,134 @@ fn stations_meet_their_cases() {
     stations_meet_their_cases_in::<u64>(REQUESTS / 120, 90);
 }
 
+const RULES_OWN: &str = "the rule's own";
+
+/// The questions that a request within limits fails, in their order, those of the rule as one.
+fn failing_limits<W: Form>(rule: &[W], lows: &[u16], highs: &[u16], room: usize) -> Vec<&'static str> {
+    let too_large = |numbers: &[u16]| numbers.iter().any(|&x| x > TOP);
+    let cases = [
+        (RULES_OWN, check_rule_in(rule).is_err()),
+        ("14 of the lows", lows.len() % 16 != 0),
+        ("14 of the highs", highs.len() % 16 != 0),
+        ("22", lows.len() != highs.len()),
+        ("13", room < lows.len() / 16),
+        ("15 of the lows", too_large(lows)),
+        ("15 of the highs", too_large(highs)),
+        ("23", lows.iter().zip(highs).any(|(low, high)| low > high)),
+    ];
+    cases.into_iter().filter(|case| case.1).map(|case| case.0).collect()
+}
+
+/// How a number stands to limits.
+fn number_met(c: u16, low: u16, high: u16) -> &'static str {
+    match (c.cmp(&low), c.cmp(&high)) {
+        (Ordering::Less, _) => "below them",
+        (_, Ordering::Greater) if c == high + 1 => "one above them",
+        (_, Ordering::Greater) => "far above them",
+        (Ordering::Equal, Ordering::Equal) => "which are equal",
+        (Ordering::Equal, _) => "at the lower",
+        (_, Ordering::Equal) => "at the upper",
+        _ => "between them",
+    }
+}
+
+/// How the limits of two registers stand to each other.
+fn registers_met(one: (u16, u16), other: (u16, u16)) -> &'static str {
+    let is_exact = |(low, high)| low == high;
+    match (is_exact(one), is_exact(other)) {
+        (true, true) if one == other => "exact and equal",
+        (true, true) => "exact and unequal",
+        _ if one.1 < other.0 || other.1 < one.0 => "apart",
+        (false, false) if one.1 == other.0 || other.1 == one.0 => "with one value in common",
+        (false, false) if one == other => "not exact and equal",
+        (false, false) => "with several values in common",
+        _ if one.0 == other.0 || one.1 == other.1 => "one exact, at a limit of the other",
+        _ => "one exact, between those of the other",
+    }
+}
+
+/// What a node meets at an index.
+fn node_met(met: &mut Cases, d: &Node, limits: &Limits, now: &[Answer], own: Answer, last: Option<Answer>) {
+    let range = |register: usize| (limits.low[register], limits.high[register]);
+    let (low, high) = range(d.register.into());
+    let (left, right) = (now[d.left as usize], now[d.right as usize]);
+    let when = if last.is_some() { "later" } else { "at index 0" };
+    count(met, &format!("kind {} {own:?} {when}", d.kind), true);
+    let way = match (d.kind, last) {
+        (1, _) => format!("equal to a number {}", number_met(d.constant, low, high)),
+        (2, _) => format!("below a number {}", number_met(d.constant, low, high)),
+        (3, _) => format!("{left:?} implies {right:?}"),
+        (4, Some(last)) => format!("{left:?} since {right:?}, last {last:?}"),
+        (6, _) if d.constant == d.register.into() => format!("a register with itself, {}", if low == high { "exact" } else { "not exact" }),
+        (6, _) => format!("two registers {}", registers_met((low, high), range(d.constant.into()))),
+        _ => return,
+    };
+    count(met, &way, true);
+    count(met, "an open node and itself", d.kind == 3 && d.left == d.right && left == Answer::Open);
+}
+
+/// What a history meets that is judged within limits.
+fn judged_met(met: &mut Cases, rule: &Rule, lows: &[u16], highs: &[u16], room: usize) {
+    let limits = limits_of(lows, highs);
+    let all = answers(rule, &limits);
+    for (n, now) in all.iter().enumerate() {
+        let before = n.checked_sub(1).map(|n| &all[n]);
+        for (i, d) in rule.nodes.iter().enumerate() {
+            node_met(met, d, &limits[n], now, now[i], before.map(|last| last[i]));
+        }
+        count(met, &format!("exact limits, {:?}", now[rule.last()]), lows == highs);
+    }
+    count(met, "no index", all.is_empty());
+    count(met, "no index and no byte", all.is_empty() && room == 0);
+    count(met, "400 indices", all.len() == 400);
+    count(met, "as many bytes as indices", room == all.len() && room > 0);
+    count(met, "bytes after the answers", room > all.len());
+    count(met, &format!("{} nodes", rule.len()), [32, 33, 64].contains(&rule.len()));
+    count(met, "the largest number tested", rule.nodes.iter().any(|d| matches!(d.kind, 1 | 2) && d.constant == TOP));
+}
+
+/// What a request within limits meets.
+fn limits_met<W: Form>(met: &mut Cases, asked: Request<W>) {
+    let mut called = asked.clone();
+    let result = called.put(&Reference);
+    let Request::Limits { rule, lows, highs, out, numbers } = asked else { unreachable!("it is within limits") };
+    let failing = failing_limits(&rule, &lows, &highs, out.len());
+    if result == 99 {
+        count(met, &format!("99 for {} words", numbers.len()), true);
+        count(met, "99 where a question fails too", !failing.is_empty());
+        return;
+    }
+    assert_eq!(result != 0, !failing.is_empty());
+    match failing.split_first() {
+        None => judged_met(met, &check_rule_in(&rule).unwrap(), &lows, &highs, out.len()),
+        Some((first, later)) => {
+            count(met, &format!("{result} of the rule"), *first == RULES_OWN);
+            count(met, &format!("{first} alone"), later.is_empty());
+            later.iter().for_each(|other| count(met, &format!("{first} before {other}"), true));
+            count(met, "13 for one byte", result == 13 && out.len() + 1 == lows.len() / 16);
+            let too_large = |numbers: &[u16]| numbers.iter().filter(|&&x| x > TOP).count();
+            count(met, "15 for the first of several", result == 15 && too_large(&lows).max(too_large(&highs)) > 1);
+            count(met, "23 for the first of several", result == 23 && lows.iter().zip(&highs).filter(|(low, high)| low > high).count() > 1);
+        }
+    }
+}
+
+/// The requests within limits meet each refusal by itself and before each later one, and each node in each of its ways.
+fn limits_meet_their_cases_in<W: Form>(cases: usize) {
+    let mut met = Cases::new();
+    for n in 0..REQUESTS / 60 {
+        limits_met(&mut met, limits::<W>(SEED, n));
+    }
+    println!("{met:#?}");
+    assert!(met.len() == cases && met.values().all(|&n| n >= 5), "{} {met:?}", met.len());
+}
+
+#[test]
+fn limits_meet_their_cases() {
+    limits_meet_their_cases_in::<u32>(149);
+    limits_meet_their_cases_in::<u64>(151);
+}
+
 /// Four stations to which the same is lent, so many words of states, and these numbers.
 fn of_stations<W: Form>(states: usize, station: Stationed<W>, numbers: Lent<u64>) -> Request<W> {
     let (states, stations) = (vec![4; states].into(), std::array::from_fn(|_| station.clone()));
@@ -856,6 +1001,13 @@ fn lent_lengths_in<W: Form>() {
                     Request::Facts { rule: rule(), instructions: stripped.clone(), out: out(), numbers: numbers() },
                     Request::Facts { rule: rule(), instructions: lost.clone(), out: out(), numbers: numbers() },
                     Request::Judge { rule: rule(), history: history(), numbers: numbers() },
+                    Request::Limits {
+                        rule: rule(),
+                        lows: history(),
+                        highs: history(),
+                        out: vec![6; space / 20].into(),
+                        numbers: numbers(),
+                    },
                     Request::Run {
                         rule: rule(),
                         script: script(),

@@ -119,6 +119,13 @@ fn of_rule<W: Form>(rule: &[W]) -> Vec<Request<W>> {
         Request::Weave { rule: rule(), bare: bare(), out: room(8 * 1024), numbers: numbers(2) },
         Request::Facts { rule: rule(), instructions: bare(), out: room(8 * 3), numbers: numbers(2) },
         Request::Judge { rule: rule(), history: [[1; 16], [0; 16], [1; 16]].concat(), numbers: numbers(4) },
+        Request::Limits {
+            rule: rule(),
+            lows: [[1; 16], [0; 16], [0; 16], [1; 16]].concat(),
+            highs: [[1; 16], [1; 16], [0; 16], [2; 16]].concat(),
+            out: vec![9; 5].into(),
+            numbers: numbers(2),
+        },
         Request::Fresh { rule: rule(), state: numbers(STATE_NUMBERS) },
         of_state(&rule(), &writes_and_presents(), odd_state()),
         Request::MoveRule { rule: rule(), out: room(rule().len()), numbers: numbers(2) },
@@ -421,6 +428,7 @@ fn rule_of<W: Form>(asked: &Request<W>) -> Option<&[W]> {
         | Request::Weave { rule, .. }
         | Request::Facts { rule, .. }
         | Request::Judge { rule, .. }
+        | Request::Limits { rule, .. }
         | Request::Run { rule, .. }
         | Request::Fresh { rule, .. }
         | Request::Steps { rule, .. }

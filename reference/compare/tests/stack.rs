@@ -3,7 +3,7 @@
 use compare::face::{Face, STATES_NUMBERS, STATE_NUMBERS};
 use compare::proved::{library, Form, Function, Library};
 use compare::request::{Request, Stationed};
-use compare::requests::{moving, request, stations};
+use compare::requests::{limits, moving, request, stations};
 use reference::rule::{check_rule_in, Node};
 use reference::script::Line;
 use std::arch::asm;
@@ -70,7 +70,8 @@ fn idle_for<F: Copy>(function: Function<F>) -> Function<F> {
 }
 
 fn idle_library<W: Form>() -> Library<W> {
-    let Library { text, rule, bare, script, weave, facts, judge, run, fresh, step, stations, move_rule, move_script } = library::<W>();
+    let Library { text, rule, bare, script, weave, facts, judge, limits, run, fresh, step, stations, move_rule, move_script } =
+        library::<W>();
     Library {
         text: idle_for(text),
         rule: idle_for(rule),
@@ -79,6 +80,7 @@ fn idle_library<W: Form>() -> Library<W> {
         weave: idle_for(weave),
         facts: idle_for(facts),
         judge: idle_for(judge),
+        limits: idle_for(limits),
         run: idle_for(run),
         fresh: idle_for(fresh),
         step: idle_for(step),
@@ -165,6 +167,7 @@ fn full_requests<W: Form>(rule: Vec<W>) -> Vec<Request<W>> {
         Request::Weave { rule: rule(), bare, out: script().into(), numbers: numbers() },
         Request::Facts { rule: rule(), instructions: stripped, out: script().into(), numbers: numbers() },
         Request::Judge { rule: rule(), history: history(), numbers: numbers() },
+        Request::Limits { rule: rule(), lows: history(), highs: vec![1; 16 * 1_000], out: vec![0; 1_000].into(), numbers: numbers() },
         Request::Run { rule: rule(), script: script(), inputs: inputs(), budget: 100_000, history: history().into(), numbers: numbers() },
         Request::Fresh { rule: rule(), state: state() },
         Request::Steps { rule: rule(), script: script(), inputs: inputs(), history: history().into(), state: state(), count: 2_000 },
@@ -226,6 +229,7 @@ fn measure<W: Form>(stacks: &mut Stacks, most: &mut Most) {
         if n % 8 == 0 {
             put(stacks, most, moving::<W>(3, n));
             put(stacks, most, stations::<W>(3, n));
+            put(stacks, most, limits::<W>(3, n));
         }
     }
     println!("and random requests: {most:?}");
@@ -237,7 +241,7 @@ fn stack_is_what_the_header_says() {
     let mut most = Most::new();
     measure::<u32>(&mut stacks, &mut most);
     measure::<u64>(&mut stacks, &mut most);
-    assert_eq!(most.len(), 26);
+    assert_eq!(most.len(), 28);
     // as the header would have it
     for (function, bytes) in &most {
         println!("    {} = {},", stack_of(function), bytes.next_multiple_of(128));
