@@ -2,6 +2,7 @@
 use crate::peers::facts::find_facts;
 use crate::peers::form::Set;
 use crate::peers::judge::{many_at_once, one_at_a_time};
+use crate::peers::limits;
 use crate::peers::machine::{fresh, run, step};
 use crate::peers::rule::Rule;
 use crate::peers::script::{check_code, check_script, BARE};
@@ -10,9 +11,9 @@ use crate::peers::text::read_text;
 use crate::peers::weave::weave;
 use crate::peers::No;
 use compare::face::Face;
-use compare::proved::{holds_readiness, library, BOTH_FORMS, STATIONED};
+use compare::proved::{holds_readiness, library, BOTH_FORMS, STATIONED, WITHIN_LIMITS};
 use compare::request::{Request, Stationed};
-use compare::requests::{request, stations};
+use compare::requests::{self, request, stations};
 use reference::stations::Station;
 
 fn numbers<X>(answer: Result<X, No>) -> (u32, u64) {
@@ -63,6 +64,16 @@ fn agree_on<W: Set>(request: Request<W>) {
                 let index = peer.as_ref().map_or(None, |&i| i);
                 assert_eq!(index, (p[1] == 1).then_some(p[2] as usize));
                 assert_eq!((result, p[0]), numbers(peer));
+            }
+        }
+        Request::Limits { rule, lows, highs, out, .. } => {
+            let (mut p, mut proved_out) = ([0; 2], out.clone());
+            let result = proved.limits(&rule, &lows, &highs, &mut proved_out, &mut p);
+            for judge in [limits::one_at_a_time::<W>, limits::many_at_once] {
+                let mut peer_out = out.clone();
+                let peer = judge(&rule, &lows, &highs, &mut peer_out);
+                assert_eq!(p[1], *peer.as_ref().unwrap_or(&0) as u64);
+                assert!((result, p[0]) == numbers(peer) && proved_out == peer_out);
             }
         }
         Request::Run { rule, script, inputs, budget, mut history, .. } => {
@@ -118,15 +129,19 @@ fn agree_on<W: Set>(request: Request<W>) {
 }
 
 /// So many requests in the first form, and a fifth as many in the second if the library has it; for stations, if it has them, a twentieth
-/// as many in each.
-pub fn agree(requests: u64) {
-    (0..requests).for_each(|n| agree_on::<u32>(request(5, n)));
+/// as many in each, and so within limits a tenth.
+pub fn agree(count: u64) {
+    (0..count).for_each(|n| agree_on::<u32>(request(5, n)));
     if BOTH_FORMS {
-        (0..requests / 5).for_each(|n| agree_on::<u64>(request(5, n)));
+        (0..count / 5).for_each(|n| agree_on::<u64>(request(5, n)));
     }
     if STATIONED {
-        (0..requests / 20).for_each(|n| agree_on::<u32>(stations(5, n)));
-        (0..requests / 20).for_each(|n| agree_on::<u64>(stations(5, n)));
+        (0..count / 20).for_each(|n| agree_on::<u32>(stations(5, n)));
+        (0..count / 20).for_each(|n| agree_on::<u64>(stations(5, n)));
+    }
+    if WITHIN_LIMITS {
+        (0..count / 10).for_each(|n| agree_on::<u32>(requests::limits(5, n)));
+        (0..count / 10).for_each(|n| agree_on::<u64>(requests::limits(5, n)));
     }
 }
 

@@ -3,7 +3,7 @@ use reference::form::Word;
 use reference::judge::{first_false_kept, first_priors, next_priors, values_now};
 use reference::random::Rng;
 use reference::rule::{check_rule_in, Node, Rule};
-use reference::State;
+use reference::{State, TOP};
 
 pub const R1: &[u32] = &[0x2200_0800, 0x2400_0800, 0x8000_0002];
 pub const R2: &[u32] = &[0x2200_0800, 0xa000_0000];
@@ -104,6 +104,12 @@ pub fn random_history<W: Word>(words: &[W], states: usize) -> Vec<u16> {
     }
     assert_eq!(first_false_kept(&rule, &history), states - 1);
     history.concat()
+}
+
+/// Limits about a history's states, one below and one above at most: the lows and the highs.
+pub fn random_limits(history: &[u16]) -> (Vec<u16>, Vec<u16>) {
+    let mut g = Rng(6);
+    history.iter().map(|&x| (x.saturating_sub(g.below(2) as u16), (x + g.below(2) as u16).min(TOP))).unzip()
 }
 
 /// One state over and over, at which the rule stays true: every branch of a judge goes the way it went before.

@@ -5,11 +5,12 @@ mod measure;
 mod peers;
 
 use compare::face::{Face, PRESENTATIONS, STATES_NUMBERS, STATE_NUMBERS, TESTED};
-use compare::proved::{holds_readiness, library, BOTH_FORMS, STATIONED};
-use histories::{random_history, rules_in_second_form, steady_history, Named, RULES};
+use compare::proved::{holds_readiness, library, BOTH_FORMS, STATIONED, WITHIN_LIMITS};
+use histories::{random_history, random_limits, rules_in_second_form, steady_history, Named, RULES};
 use measure::{measure, Row, Table};
 use peers::form::Set;
 use peers::judge::{many_at_once, one_at_a_time};
+use peers::limits;
 use reference::random::Rng;
 use reference::rule::{check_rule_in, Node};
 use reference::stations::{Station, STATIONS};
@@ -38,6 +39,32 @@ fn judge_rows<W: Set>(rules: &[Named<W>]) -> Vec<Row> {
                 }));
             }
             rows.push(Row::new(format!("judge {name}, {} nodes, {STATES} {kind} states", rule.len()), "state", STATES, calls));
+        }
+    }
+    rows
+}
+
+/// The judge within limits: where each dial is known within one of its values, and where it is known exactly.
+fn limits_rows<W: Set>(rules: &[Named<W>]) -> Vec<Row> {
+    let mut rows = vec![];
+    for &(name, rule) in rules.iter().filter(|_| WITHIN_LIMITS) {
+        let history = random_history(rule, STATES);
+        for (kind, (lows, highs)) in [("random", random_limits(&history)), ("exact", (history.clone(), history))] {
+            let (mut n, mut out) = ([0; 2], vec![9; STATES]);
+            assert_eq!((library().limits(rule, &lows, &highs, &mut out, &mut n), n), (0, [0, STATES as u64]));
+            let mut calls: Vec<Box<dyn FnMut()>> = vec![];
+            for judge in [limits::one_at_a_time::<W>, limits::many_at_once] {
+                let (low, high, mut peer_out) = (lows.clone(), highs.clone(), vec![9; STATES]);
+                assert!(judge(rule, &low, &high, &mut peer_out).is_ok_and(|indices| indices == STATES) && out == peer_out);
+                calls.push(Box::new(move || {
+                    black_box(judge(black_box(rule), black_box(&low), black_box(&high), &mut peer_out).is_ok());
+                }));
+            }
+            let proved = move || {
+                black_box(library().limits(black_box(rule), black_box(&lows), black_box(&highs), &mut out, &mut n));
+            };
+            calls.insert(0, Box::new(proved));
+            rows.push(Row::new(format!("limits {name}, {} nodes, {STATES} {kind} limits", rule.len()), "index", STATES, calls));
         }
     }
     rows
@@ -520,9 +547,11 @@ fn second_form(rules: &[Named<u64>; 3]) -> Vec<Row> {
 fn main() {
     agree::agree(20_000);
     let (mut judges, mut others) = (judge_rows(&RULES), first_form());
+    judges.extend(limits_rows(&RULES));
     if BOTH_FORMS {
         let rules = rules_in_second_form();
         judges.extend(judge_rows(&rules));
+        judges.extend(limits_rows(&rules));
         others.extend(second_form(&rules));
     }
     let mut tables = [Table { peers: &["one at a time", "64 at once"], rows: judges }, Table { peers: &["peer"], rows: others }];

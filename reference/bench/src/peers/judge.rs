@@ -6,84 +6,93 @@ use super::{joined, no, numbers_small, No};
 
 /// A test: `lo` <= register < `lo` + `width`, in one comparison.
 #[derive(Clone, Copy, Default)]
-struct Test {
-    lo: u16,
-    width: u16,
-    register: u8,
-    bit: u8,
+pub(super) struct Test {
+    pub lo: u16,
+    pub width: u16,
+    pub register: u8,
+    pub bit: u8,
 }
 
 /// A test of two registers.
 #[derive(Clone, Copy, Default)]
-struct Pair {
-    register: u8,
-    other: u8,
-    bit: u8,
+pub(super) struct Pair {
+    pub register: u8,
+    pub other: u8,
+    pub bit: u8,
 }
 
 #[derive(Clone, Copy, Default)]
-struct Join {
-    kind: u8,
-    left: u8,
-    right: u8,
-    bit: u8,
+pub(super) struct Join {
+    pub kind: u8,
+    pub left: u8,
+    pub right: u8,
+    pub bit: u8,
 }
 
 /// Some of a rule's nodes, in the order of their numbers.
-struct Part<W: Set, X: Copy> {
+pub(super) struct Part<W: Set, X: Copy> {
     all: W::Table<X>,
     count: usize,
 }
 
 impl<W: Set, X: Copy + Default> Part<W, X> {
-    fn none() -> Part<W, X> {
+    pub fn none() -> Part<W, X> {
         Part { all: W::table(X::default()), count: 0 }
     }
 
-    fn push(&mut self, one: X) {
+    pub fn push(&mut self, one: X) {
         self.all.as_mut()[W::place(self.count)] = one;
         self.count += 1;
     }
 
-    fn each(&self) -> &[X] {
+    pub fn each(&self) -> &[X] {
         &self.all.as_ref()[..self.count]
     }
 }
 
 /// The nodes numbered anew, operands before their node and left's number one below a weak previous's, unless it has one already. A
 /// node's bit in a set is the one of its new number, from the lowest.
-struct Decoded<W: Set> {
-    tests: Part<W, Test>,
-    pairs: Part<W, Pair>,
+pub(super) struct Decoded<W: Set> {
+    pub tests: Part<W, Test>,
+    pub pairs: Part<W, Pair>,
     /// Implies, since and weak previous.
-    joins: Part<W, Join>,
-    last: u8,
-    since: W,
-    weak: W,
+    pub joins: Part<W, Join>,
+    pub last: u8,
+    pub since: W,
+    pub weak: W,
     /// The weak previouses whose operand's number is one below theirs, and the others.
-    near: W,
-    far: Part<W, Join>,
+    pub near: W,
+    pub far: Part<W, Join>,
 }
 
 const NO_NUMBER: u8 = 64;
 
 /// A node's bit, or none.
-fn bit_if<W: Set>(holds: bool, bit: u8) -> W {
+pub(super) fn bit_if<W: Set>(holds: bool, bit: u8) -> W {
     W::from(holds as u8) << W::place(bit as usize) as u32
 }
 
 /// A set with a node's bit as the lowest.
-fn from_bit<W: Set>(set: W, bit: u8) -> W {
+pub(super) fn from_bit<W: Set>(set: W, bit: u8) -> W {
     set >> W::place(bit as usize) as u32
 }
 
 impl<W: Set> Decoded<W> {
-    fn new(rule: &Rule<W>) -> Decoded<W> {
+    pub fn new(rule: &Rule<W>) -> Decoded<W> {
         let none = W::default();
         let (tests, pairs, joins, far) = (Part::none(), Part::none(), Part::none(), Part::none());
         let mut d = Decoded { tests, pairs, joins, last: 0, since: none, weak: none, near: none, far };
         d.last = d.number(rule, rule.count() - 1, &mut 0, &mut W::table(NO_NUMBER));
         d
+    }
+
+    /// What stands before the first of 64 states, for each node.
+    pub fn first_priors(&self) -> W::Table<u64> {
+        let mut carry = W::table(0);
+        for (at, bit) in carry.as_mut().iter_mut().enumerate() {
+            *bit = !(from_bit(self.weak, at as u8) & W::from(1)).is_empty() as u64;
+        }
+        carry
     }
 
     fn number(&mut self, rule: &Rule<W>, node: usize, next: &mut u8, numbers: &mut W::Table<u8>) -> u8 {
@@ -176,6 +185,14 @@ fn packed(block: &[u16; 1024], passes: impl Fn(&[u16; 16]) -> bool) -> u64 {
     quarters[0] | quarters[1] << 16 | quarters[2] << 32 | quarters[3] << 48
 }
 
+/// A since at 64 states: a run of left carries the sum on from where right or the word before starts it.
+#[inline(always)]
+pub(super) fn since(left: u64, right: u64, before: u64) -> u64 {
+    let either = left | right;
+    let sum = either.wrapping_add(right).wrapping_add(before);
+    right | left & (either ^ right ^ sum)
+}
+
 /// The rule's values at 64 states.
 fn values_at<W: Set>(d: &Decoded<W>, block: &[u16; 1024], values: &mut W::Table<u64>, carry: &mut W::Table<u64>) -> u64 {
     let (values, carry) = (values.as_mut(), carry.as_mut());
@@ -200,11 +217,8 @@ fn values_at<W: Set>(d: &Decoded<W>, block: &[u16; 1024], values: &mut W::Table<
                 carry[at] = left >> 63;
                 left << 1 | before
             }
-            // a run of left carries the sum on from where right or the word before starts it
             _ => {
-                let either = left | right;
-                let sum = either.wrapping_add(right).wrapping_add(before);
-                let v = right | left & (either ^ right ^ sum);
+                let v = since(left, right, before);
                 carry[at] = v >> 63;
                 v
             }
@@ -213,25 +227,25 @@ fn values_at<W: Set>(d: &Decoded<W>, block: &[u16; 1024], values: &mut W::Table<
     values[place(d.last)]
 }
 
+/// The numbers of 64 states; where a history ends sooner, in `rest` and filled up with zeros.
+pub(super) fn whole<'a>(block: &'a [u16], rest: &'a mut [u16; 1024]) -> &'a [u16; 1024] {
+    block.try_into().unwrap_or_else(|_| {
+        rest[..block.len()].copy_from_slice(block);
+        &*rest
+    })
+}
+
 /// The same, 64 states at a time.
 pub fn many_at_once<W: Set>(rule: &[W], history: &[u16]) -> Result<Option<usize>, No> {
     let d = Decoded::new(&ask(rule, history)?);
-    let (mut values, mut carry) = (W::table(0), W::table(0));
-    for (at, bit) in carry.as_mut().iter_mut().enumerate() {
-        *bit = !(from_bit(d.weak, at as u8) & W::from(1)).is_empty() as u64;
-    }
+    let (mut values, mut carry) = (W::table(0), d.first_priors());
     let mut found = None;
     let mut any = 0;
     for (n, block) in history.chunks(1024).enumerate() {
         any |= joined(block);
         if found.is_none() {
             let states = block.len() / 16;
-            let mut rest = [0; 1024];
-            let whole = block.try_into().unwrap_or_else(|_| {
-                rest[..block.len()].copy_from_slice(block);
-                &rest
-            });
-            let wrong = !values_at(&d, whole, &mut values, &mut carry) & u64::MAX >> (64 - states);
+            let wrong = !values_at(&d, whole(block, &mut [0; 1024]), &mut values, &mut carry) & u64::MAX >> (64 - states);
             if wrong != 0 {
                 found = Some(64 * n + wrong.trailing_zeros() as usize);
             }

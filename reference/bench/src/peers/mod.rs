@@ -2,6 +2,7 @@
 pub mod facts;
 pub mod form;
 pub mod judge;
+pub mod limits;
 pub mod machine;
 pub mod rule;
 pub mod script;
