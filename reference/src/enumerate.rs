@@ -99,8 +99,8 @@ pub fn enumerated(truths: &[u32], exact: &[usize], n: usize) -> Answer {
 }
 
 /// Holds what a judge answers for a rule at each index to the enumeration, for all limits: what is true or false is so in every exact history
-/// within; exact limits give the truth; and so many results as a test by itself can have, it has. Counts the answers false, true and open,
-/// and the open ones where all exact histories agree.
+/// within; exact limits give the truth; a test by itself is open just where both results occur. Counts the answers false, true and open, and
+/// the open ones where all exact histories agree.
 pub fn hold_to_every_history(small: &Small, rule: &Rule, mut judge: impl FnMut(&Within) -> Vec<Answer>, met: &mut [u64; 4]) {
     let truths = small.truths(rule);
     for within in &small.all {

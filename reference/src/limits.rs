@@ -79,7 +79,7 @@ pub fn since(left: Answer, right: Answer, last: Answer) -> Answer {
 }
 
 /// The answers of all nodes at one index, from those at the index before, if there is one.
-pub fn answers_now(rule: &Rule, before: Option<&Vec<Answer>>, limits: &Limits) -> Vec<Answer> {
+fn answers_now(rule: &Rule, before: Option<&Vec<Answer>>, limits: &Limits) -> Vec<Answer> {
     let first = if planted(Fault::FirstPreviousOpen) { Open } else { True };
     let mut now: Vec<Answer> = vec![];
     for (i, d) in rule.nodes.iter().enumerate() {

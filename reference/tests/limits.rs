@@ -135,116 +135,137 @@ fn every_small_rule_depends_on_these() {
     assert_eq!(met.len(), 11);
 }
 
-/// Random limits about small numbers, or about the largest: exact ones, narrow ones and wide ones. Registers that no rule here reads have any.
-fn any_limits(g: &mut Rng, indices: usize, open: usize, shift: u16) -> Vec<Limits> {
-    let mut limits = vec![Limits::exact([0; 16]); indices];
-    for at in &mut limits {
-        for r in 0..16 {
-            let value =
-                |g: &mut Rng| g.below(if r < generate::REGISTERS { generate::CONSTANTS } else { 16_384 - shift as usize }) as u16 + shift;
-            let (a, b) = (value(g), value(g));
-            (at.low[r], at.high[r]) = if g.chance(open, 8) { (a.min(b), a.max(b)) } else { (a, a) };
-            if g.chance(open, 80) {
-                (at.low[r], at.high[r]) = (0, TOP);
-            }
-        }
-    }
-    limits
-}
-
-/// A rule whose tests are about such numbers.
-fn shifted(rule: &Rule, shift: u16) -> Rule {
-    let constant = |node: &Node| if matches!(node.kind, 1 | 2) { node.constant + shift } else { node.constant };
-    let words: Vec<u64> = rule.nodes.iter().map(|node| Node { constant: constant(node), ..*node }.encode_in()).collect();
-    check_rule_in(&words).expect("no question asks for a test's constant")
-}
-
-/// Some exact history within limits, of which the registers of a set alone need to be kept.
-fn any_within(g: &mut Rng, limits: &[Limits], keeps: impl Fn(usize) -> bool, shift: u16) -> Vec<State> {
-    let at = |g: &mut Rng, at: &Limits, r: usize| match keeps(r) {
-        // about the tests' constants, where these lie within
-        true if at.low[r] == 0 && at.high[r] == TOP => g.below(generate::CONSTANTS) as u16 + shift,
-        true => g.within(at.low[r].into(), at.high[r].into()) as u16,
-        false => g.below(generate::CONSTANTS) as u16 + shift,
-    };
-    limits.iter().map(|limits| std::array::from_fn(|r| at(g, limits, r))).collect()
-}
-
-/// Narrower limits, those of a set being unchanged.
-fn any_narrower(g: &mut Rng, limits: &[Limits], unchanged: &BTreeSet<usize>) -> Vec<Limits> {
-    let mut narrower = limits.to_vec();
-    for at in &mut narrower {
-        for r in (0..16).filter(|r| !unchanged.contains(r)) {
-            let low = g.within(at.low[r].into(), at.high[r].into());
-            (at.low[r], at.high[r]) = (low as u16, g.within(low, at.high[r].into()) as u16);
-        }
-    }
-    narrower
-}
-
 type Cases = BTreeMap<&'static str, u32>;
 
 fn count(met: &mut Cases, name: &'static str, holds: bool) {
     *met.entry(name).or_default() += holds as u32;
 }
 
-/// Limits of so many indices, judged in a form; later bytes stay.
-fn bytes<W: Word>(rule: &Rule, limits: &[Limits]) -> Result<Vec<u8>, String> {
-    let lows: Vec<u16> = limits.iter().flat_map(|at| at.low).collect();
-    let highs: Vec<u16> = limits.iter().flat_map(|at| at.high).collect();
-    let mut out = vec![9; limits.len() + 2];
-    let count = judge_limits_in::<W>(&rule.words_in(), &lows, &highs, &mut out);
-    if count != Ok(limits.len()) || out.split_off(limits.len()) != [9, 9] {
-        return Err(format!("{count:?}"));
-    }
-    Ok(out)
+/// The same rule with tests about larger numbers.
+fn shifted(rule: &Rule, by: u16) -> Rule {
+    let constant = |node: &Node| if matches!(node.kind, 1 | 2) { node.constant + by } else { node.constant };
+    let words: Vec<u64> = rule.nodes.iter().map(|node| Node { constant: constant(node), ..*node }.encode_in()).collect();
+    check_rule_in(&words).expect("no question asks for a test's constant")
 }
 
-/// What is promised of random limits: by samples of the exact histories within and of narrower limits.
-fn promised<W: Word>(g: &mut Rng, met: &mut Cases) -> Result<(), String> {
-    let size = generate::rule_size_within(g, W::MOST_NODES);
-    let shift = if g.chance(1, 4) { TOP - 3 } else { 0 };
-    let rule = if g.chance(1, 2) { generate::sharing_rule(g, size) } else { generate::rule(g, size) };
-    let (rule, indices, open) = (shifted(&rule, shift), g.below(7), g.pick(&[0, 1, 2, 4, 8]));
-    let limits = any_limits(g, indices, open, shift);
-    let all = bytes::<W>(&rule, &limits)?;
-    let grounds: Vec<Grounded> = grounded(&rule, &limits).into_iter().map(|mut now| now.swap_remove(rule.last())).collect();
-    if grounds.iter().map(|ground| ground.answer as u8).ne(all.iter().copied()) {
-        return Err(format!("{grounds:?}, but {all:?}"));
-    }
-    // exact limits: the truth, and the judge's verdict
-    for _ in 0..8 {
-        let exact = any_within(g, &limits, |_| true, shift);
-        if !is_within(&exact, &limits) {
-            return Err(format!("{exact:?} is not within"));
+/// A random rule and limits for it. Its tests are about four numbers from `least` on, the smallest there are or the largest.
+struct Asked {
+    rule: Rule,
+    least: u16,
+    limits: Vec<Limits>,
+}
+
+impl Asked {
+    /// So many of eight registers are not known exactly, and some of these not at all.
+    fn any(g: &mut Rng, size: usize, indices: usize, open: usize) -> Asked {
+        let rule = if g.chance(1, 2) { generate::sharing_rule(g, size) } else { generate::rule(g, size) };
+        let least = g.pick(&[0, 0, 0, TOP - 3]);
+        let mut limits = vec![Limits::exact([0; 16]); indices];
+        for at in &mut limits {
+            for r in 0..16 {
+                let (one, other) = (least + g.below(4) as u16, least + g.below(4) as u16);
+                (at.low[r], at.high[r]) = match g.chance(open, 8) {
+                    true if g.chance(1, 10) => (0, TOP),
+                    true => (one.min(other), one.max(other)),
+                    false => (one, one),
+                };
+            }
         }
-        let truth = &rule.truth_table(&exact)[rule.last()];
-        if (0..indices).any(|n| all[n] != 2 && all[n] != truth[n] as u8) {
+        Asked { rule: shifted(&rule, least), least, limits }
+    }
+
+    /// A number from `low` to `high`, mostly one that the tests are about.
+    fn any_number(&self, g: &mut Rng, low: u16, high: u16) -> u16 {
+        let (about, any) = (self.least + g.below(4) as u16, g.within(low.into(), high.into()) as u16);
+        if (low..=high).contains(&about) && g.chance(3, 4) {
+            about
+        } else {
+            any
+        }
+    }
+
+    /// An exact history in which the registers that are kept lie within their limits; the others have any number.
+    fn any_exact(&self, g: &mut Rng, keeps: impl Fn(usize) -> bool) -> Vec<State> {
+        let range = |at: &Limits, r: usize| if keeps(r) { (at.low[r], at.high[r]) } else { (0, TOP) };
+        let mut number = |(low, high)| self.any_number(g, low, high);
+        self.limits.iter().map(|at| std::array::from_fn(|r| number(range(at, r)))).collect()
+    }
+
+    /// Narrower limits, in which those of some registers are unchanged.
+    fn any_narrower(&self, g: &mut Rng, unchanged: &BTreeSet<usize>) -> Vec<Limits> {
+        let mut narrower = self.limits.clone();
+        for at in &mut narrower {
+            for r in (0..16).filter(|r| !unchanged.contains(r)) {
+                at.low[r] = self.any_number(g, at.low[r], at.high[r]);
+                at.high[r] = self.any_number(g, at.low[r], at.high[r]);
+            }
+        }
+        narrower
+    }
+
+    /// The answers to some limits in a form; later bytes stay.
+    fn bytes<W: Word>(&self, limits: &[Limits]) -> Result<Vec<u8>, String> {
+        let lows: Vec<u16> = limits.iter().flat_map(|at| at.low).collect();
+        let highs: Vec<u16> = limits.iter().flat_map(|at| at.high).collect();
+        let mut out = vec![9; limits.len() + 2];
+        let count = judge_limits_in::<W>(&self.rule.words_in(), &lows, &highs, &mut out);
+        if count != Ok(limits.len()) || out.split_off(limits.len()) != [9, 9] {
+            return Err(format!("{count:?}"));
+        }
+        Ok(out)
+    }
+
+    /// True and false are so in an exact history within; its own limits give the truth everywhere, and the judge's verdict.
+    fn is_right<W: Word>(&self, exact: &[State], all: &[u8]) -> Result<(), String> {
+        let truth: Vec<u8> = self.rule.truth_table(exact)[self.rule.last()].iter().map(|&x| x as u8).collect();
+        if !is_within(exact, &self.limits) || all.iter().zip(&truth).any(|(&byte, &truth)| byte != 2 && byte != truth) {
             return Err(format!("{all:?}, but {truth:?} in {exact:?}"));
         }
-        let alone = bytes::<W>(&rule, &exact.iter().map(|&state| Limits::exact(state)).collect::<Vec<_>>())?;
-        let words = exact.concat();
-        let breach = judge_in::<W>(&rule.words_in(), &words, 0).expect("exact histories are judged").index;
-        if alone.iter().position(|&byte| byte == 0).unwrap_or(indices) != breach || alone.contains(&2) {
-            return Err(format!("{alone:?} for exact limits, but the breach is at {breach}"));
+        let alone = self.bytes::<W>(&exact.iter().map(|&state| Limits::exact(state)).collect::<Vec<_>>())?;
+        let breach = judge_in::<W>(&self.rule.words_in(), &exact.concat(), 0).expect("exact histories are judged").index;
+        if alone != truth || alone.iter().position(|&byte| byte == 0).unwrap_or(alone.len()) != breach {
+            return Err(format!("{alone:?} where limits are exact, but {truth:?}, and the breach at {breach}"));
         }
+        Ok(())
     }
-    for (n, Grounded { answer, registers }) in grounds.iter().enumerate() {
-        count(met, "false", *answer == False);
-        count(met, "true", *answer == True);
-        count(met, "open", *answer == Open);
-        count(met, "depends on some registers that are read", !registers.is_empty() && registers.len() < generate::REGISTERS);
-        for _ in 0..4 {
-            let exact = any_within(g, &limits, |r| registers.contains(&r), shift);
-            let truth = rule.truth_table(&exact)[rule.last()][n];
-            if *answer != Open && (*answer == True) != truth {
-                return Err(format!("{answer:?} at {n} by {registers:?}, but {truth} in {exact:?}"));
-            }
-            let narrower = any_narrower(g, &limits, registers);
-            if *answer == Open && answers(&rule, &narrower)[n][rule.last()] != Open {
-                return Err(format!("open at {n} by {registers:?}, but not in {narrower:?}"));
-            }
+
+    /// The answer at index n depends on no other registers: in an exact history that keeps just the limits of these, and with limits that are
+    /// narrower for the others.
+    fn depends<W: Word>(&self, g: &mut Rng, n: usize, Grounded { answer, registers }: &Grounded) -> Result<(), String> {
+        let exact = self.any_exact(g, |r| registers.contains(&r));
+        let truth = self.rule.truth_table(&exact)[self.rule.last()][n];
+        if *answer != Open && (*answer == True) != truth {
+            return Err(format!("{answer:?} at {n} by {registers:?}, but {truth} in {exact:?}"));
         }
+        let narrower = self.any_narrower(g, registers);
+        if *answer == Open && self.bytes::<W>(&narrower)?[n] != 2 {
+            return Err(format!("open at {n} by {registers:?}, but not in {narrower:?}"));
+        }
+        Ok(())
+    }
+}
+
+/// What is promised of random limits, by samples of the exact histories within and of narrower limits.
+fn promised<W: Word>(g: &mut Rng, met: &mut Cases) -> Result<(), String> {
+    let (size, indices, open) = (generate::rule_size_within(g, W::MOST_NODES), g.below(7), g.pick(&[0, 1, 2, 4, 8]));
+    let asked = Asked::any(g, size, indices, open);
+    let all = asked.bytes::<W>(&asked.limits)?;
+    for _ in 0..8 {
+        let exact = asked.any_exact(g, |_| true);
+        asked.is_right::<W>(&exact, &all)?;
+    }
+    for (n, mut now) in grounded(&asked.rule, &asked.limits).into_iter().enumerate() {
+        let ground = now.swap_remove(size - 1);
+        if ground.answer as u8 != all[n] {
+            return Err(format!("{ground:?} at {n}, but {}", all[n]));
+        }
+        for _ in 0..4 {
+            asked.depends::<W>(g, n, &ground)?;
+        }
+        count(met, "false", ground.answer == False);
+        count(met, "true", ground.answer == True);
+        count(met, "open", ground.answer == Open);
+        count(met, "some of the registers that are read", (1..generate::REGISTERS).contains(&ground.registers.len()));
     }
     count(met, "exact limits", open == 0 && indices > 0);
     count(met, "no index", indices == 0);
