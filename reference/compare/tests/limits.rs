@@ -29,6 +29,7 @@ fn every_small_rule_in<W: Form>(shapes: &[(usize, u16)]) {
         }
     }
     println!("false, true, open, open where all exact histories agree: {met:?}");
+    assert!(met.iter().all(|&n| n > 100_000));
 }
 
 /// At so many indices, with values of two registers up to so much.
