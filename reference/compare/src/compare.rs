@@ -1,7 +1,7 @@
 //! Requests put to both, and every number of every answer and of every lent slice held side by side; and the two stored forms held to each
 //! other.
 use crate::face::{Face, PRESENTATIONS, READY, REGISTERS, STATE_NUMBERS};
-use crate::faced::Reference;
+use crate::faced::{Reference, DIRECT};
 use crate::proved::{library, Form};
 use crate::request::Request;
 use crate::requests::{limits, moving, request, stations};
@@ -104,11 +104,8 @@ fn promised<W: Form>(called: &Request<W>) -> Result<Vec<bool>, String> {
     Ok(ready)
 }
 
-/// An exact history of at most so many states is looked at by the table of kinds.
-const DIRECT: usize = 24;
-
 /// What the proved code has answered within limits is right, by the table of kinds, for exact histories within: the lowest values, the
-/// highest, and the two by turns. Where limits are equal, nothing is open. Hands back the answers.
+/// highest, and the two by turns, as far as these are judged by it. Where limits are equal, nothing is open. Hands back the answers.
 fn right_within<W: Form>(called: &Request<W>) -> Result<Vec<u8>, String> {
     let Request::Limits { rule, lows, highs, out, .. } = called else { return Ok(vec![]) };
     let rule = check_rule_in(rule).map_err(|no| format!("its rule fails {}", no.number))?;

@@ -18,7 +18,7 @@ const TOO_SHORT: u32 = 99;
 const TOO_LARGE: u32 = 98;
 
 /// Histories of up to so many states are judged by the table of kinds, longer ones with priors kept.
-const DIRECT: usize = 24;
+pub const DIRECT: usize = 24;
 
 /// Writes the first words; later ones stay.
 fn note<const N: usize>(numbers: &mut [u64], words: [u64; N]) {
