@@ -6,22 +6,22 @@
  * link all of them. They need no other library, keep nothing between calls, allocate nothing, and may be called from several threads at once.
  *
  * Every function here is proved: for each input it ends, reads and writes only what is lent to it, and answers what
- * crates/spec/specs says, a move what crates/moves/specs says, a run of four stations what crates/turns/specs says (the src folders of
- * crates guard, guard64, guard_four and guard_four64 have the contracts).
+ * crates/spec/specs says, a move what crates/moves/specs says, a run of four stations what crates/turns/specs says, judging within limits
+ * what crates/intervals/specs says (the src folders of crates guard, guard64, guard_four and guard_four64 have the contracts).
  *
  * LENT MEMORY. Each array comes as a pointer and its length in elements, not in bytes. A pointer is aligned for its elements and
  * is not null, also where the length is 0 (any aligned address serves then). `const` arrays are only read. An array that a
  * function may write overlaps no other array of the same call, and no other thread uses it during the call. Every length is
  * allowed; nothing is read or written past it.
  *
- * THE NUMBER HANDED BACK is 0, or 1 to 21: the question that has a no (enum guard_question), or GUARD_TOO_SHORT where the lent
+ * THE NUMBER HANDED BACK is 0, or 1 to 23: the question that has a no (enum guard_question), or GUARD_TOO_SHORT where the lent
  * `numbers` or `state` is shorter than the function needs, or (a step alone) GUARD_TOO_LARGE.
  *
  * THE OTHER NUMBERS of an answer go into the first elements of `numbers`, as many as the function's GUARD_..._NUMBERS; elements
- * after these stay as they were. On a refusal (1 to 21) numbers[GUARD_PLACE] is the place and every other number of the answer
+ * after these stay as they were. On a refusal (1 to 23) numbers[GUARD_PLACE] is the place and every other number of the answer
  * is 0; otherwise the place is 0.
  *
- * WHAT A REFUSAL LEAVES UNTOUCHED. With 1 to 21 `out`, the history of a run, and the states and histories of a run of four stations are as
+ * WHAT A REFUSAL LEAVES UNTOUCHED. With 1 to 23 `out`, the history of a run, and the states and histories of a run of four stations are as
  * they were. With GUARD_TOO_SHORT and GUARD_TOO_LARGE nothing at all is written, `numbers`, `state` and `states` included.
  *
  * FORMATS. A rule is 1 to 32 nodes, one 32-bit word each, from the most significant bit: kind 3 bits, register 4, constant 14,
@@ -57,8 +57,8 @@ extern "C" {
 #endif
 
 /* The questions, in the order in which they are put, but for a text: 16, 17, 18, then 13, for facts to be found: 1 to 7, 19, then 13,
- * for a move back: 1 to 4, 20, of a script 5 to 8, then 13, and for four stations: 21, then 1 to 11 of one station after the other, then 15
- * likewise. Each is put to the whole input before the next, of four stations to the station's. In brackets what the place counts, from 0; the
+ * for a move back: 1 to 4, 20, of a script 5 to 8, then 13, for four stations: 21, then 1 to 11 of one station after the other, then 15
+ * likewise, and for limits: 1 to 4, 14 of the lows, 14 of the highs, 22, 13, 15 of the lows, 15 of the highs, then 23. Each is put to the whole input before the next, of four stations to the station's. In brackets what the place counts, from 0; the
  * others have place 0. A run of four stations has the station for its place, 0 to 3, whatever the question counts. */
 enum guard_question {
     GUARD_YES = 0,                /* every question has a yes */
@@ -76,9 +76,10 @@ enum guard_question {
     GUARD_PRESENT_KNOWN = 10,     /* at each present, is the rule known to be true? (line) */
     GUARD_FACTS_FOLLOW = 11,      /* are the facts noted at each following line among those passed on? (the line passing) */
     GUARD_WOVEN_LINES = 12,       /* has the woven script at most 1,024 lines? */
-    GUARD_OUTPUT_WORDS = 13,      /* are there enough words in the output, eight for an annotated line, one for a node? */
-    GUARD_HISTORY_LENGTH = 14,    /* is the history's length a multiple of 16? */
-    GUARD_NUMBERS_SMALL = 15,     /* are all numbers of the history, or of the inputs, at most 16,383? (position) */
+    GUARD_OUTPUT_WORDS = 13,      /* are there enough words in the output, eight for an annotated line, one for a node; of limits enough
+                                     bytes, one for an index? */
+    GUARD_HISTORY_LENGTH = 14,    /* is the length of the history, or of a list of limits, a multiple of 16? */
+    GUARD_NUMBERS_SMALL = 15,     /* are all numbers of the history, of the inputs, or of a list of limits, at most 16,383? (position) */
     GUARD_TEXT_GRAMMAR = 16,      /* is the text one of the grammar? (the first byte that no continuation could follow, or the
                                      length where the text ends too soon) */
     GUARD_TEXT_RANGE = 17,        /* are registers at most 15, numbers at most 16,383? (the first byte of the number) */
@@ -87,6 +88,8 @@ enum guard_question {
                                      these instructions accepted (line) */
     GUARD_MOVED_NODE_COUNT = 20,  /* has the rule that moves back to the first form at most 32 nodes? */
     GUARD_STATION_COUNT = 21,     /* are four states lent, neither more nor less? */
+    GUARD_LIMITS_LENGTH = 22,     /* are there as many lows as highs? */
+    GUARD_LIMITS_ORDER = 23,      /* is no low above its high? (position) */
     GUARD_TOO_LARGE = 98,         /* a step: a register in `state` is above 65,535, or state[GUARD_STATE_READY] above 1 */
     GUARD_TOO_SHORT = 99          /* `numbers` or `state` is shorter than the function needs */
 };
@@ -110,6 +113,7 @@ enum guard_stack {
     GUARD_STACK_WEAVE = 10880,
     GUARD_STACK_FACTS = 58496,
     GUARD_STACK_JUDGE = 512,
+    GUARD_STACK_LIMITS = 640,
     GUARD_STACK_RUN = 1280,
     GUARD_STACK_FRESH = 512,
     GUARD_STACK_STEP = 896,
@@ -121,6 +125,7 @@ enum guard_stack {
     GUARD_STACK_WEAVE64 = 20352,
     GUARD_STACK_FACTS64 = 58240,
     GUARD_STACK_JUDGE64 = 256,
+    GUARD_STACK_LIMITS64 = 384,
     GUARD_STACK_RUN64 = 1024,
     GUARD_STACK_FRESH64 = 256,
     GUARD_STACK_STEP64 = 640,
@@ -220,6 +225,31 @@ enum {
 };
 uint32_t guard_judge(const uint32_t *rule, size_t rule_length, const uint16_t *history, size_t history_length,
                      uint64_t *numbers, size_t numbers_length);
+
+/* Judges a history whose registers are known only within limits: `lows` has the lowest and `highs` the highest number that each register can
+ * have had, 16 for each presentation, in the order of a history. Questions 1 to 4; 14 of `lows`, then of `highs`; 22; 13; 15 of `lows`, then of
+ * `highs`; 23. The answer for each presentation goes to the first bytes of `out`, one an index; later bytes of `out` stay.
+ *
+ * An exact history lies within the limits if it is as long and each of its numbers is at least its low and at most its high. At an index
+ *
+ *     GUARD_LIMITS_TRUE    says that the rule is true there in every exact history within the limits;
+ *     GUARD_LIMITS_FALSE   says that it is false there in every one;
+ *     GUARD_LIMITS_OPEN    says neither. Each operand is taken by itself, so that an answer may be open although every exact history has
+ *                          the same: of `r1=5 or not r1=5` with register 1 from 4 to 6 both sides are open, and so is the whole.
+ *
+ * Where every low equals its high no answer is open, and the first index with GUARD_LIMITS_FALSE is the one that guard_judge finds. */
+enum guard_limit {
+    GUARD_LIMITS_FALSE = 0,
+    GUARD_LIMITS_TRUE = 1,
+    GUARD_LIMITS_OPEN = 2
+};
+enum {
+    GUARD_LIMITS_INDICES = 1,     /* how many answers were written */
+    GUARD_LIMITS_NUMBERS = 2
+};
+uint32_t guard_limits(const uint32_t *rule, size_t rule_length, const uint16_t *lows, size_t lows_length,
+                      const uint16_t *highs, size_t highs_length, uint8_t *out, size_t out_length,
+                      uint64_t *numbers, size_t numbers_length);
 
 /* Runs an annotated script from a fresh start: questions 1 to 11, and 15 of the inputs, then steps until something stops it.
  * `history` is memory for the presentations, of any length; presentation n goes to history[16 x n] to history[16 x n + 15], and
@@ -354,7 +384,7 @@ static inline uint32_t guard_stations_of(uint64_t *states, size_t states_length,
                           c->history, c->history_length, d->history, d->history_length, numbers, numbers_length);
 }
 
-/* The same eleven over the second form: what is said of guard_text holds for guard_text64, and so on, with 64 nodes for 32, and the same
+/* The same twelve over the second form: what is said of guard_text holds for guard_text64, and so on, with 64 nodes for 32, and the same
  * GUARD_..._NUMBERS, GUARD_STATE_NUMBERS and GUARD_STATIONS_STATES. The rules and annotated scripts of one call have the same form; a state has
  * none, its sets have a bit for each of 64 nodes in both. */
 uint32_t guard_text64(const uint8_t *text, size_t text_length, uint64_t *out, size_t out_length,
@@ -370,6 +400,9 @@ uint32_t guard_facts64(const uint64_t *rule, size_t rule_length, const uint32_t 
                        uint64_t *out, size_t out_length, uint64_t *numbers, size_t numbers_length);
 uint32_t guard_judge64(const uint64_t *rule, size_t rule_length, const uint16_t *history, size_t history_length,
                        uint64_t *numbers, size_t numbers_length);
+uint32_t guard_limits64(const uint64_t *rule, size_t rule_length, const uint16_t *lows, size_t lows_length,
+                        const uint16_t *highs, size_t highs_length, uint8_t *out, size_t out_length,
+                        uint64_t *numbers, size_t numbers_length);
 uint32_t guard_run64(const uint64_t *rule, size_t rule_length, const uint64_t *script, size_t script_length,
                      const uint16_t *inputs, size_t inputs_length, uint64_t budget,
                      uint16_t *history, size_t history_length, uint64_t *numbers, size_t numbers_length);
