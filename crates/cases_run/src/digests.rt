@@ -1,7 +1,7 @@
 // One number for many words.
-use crate::loading::split_words;
-use crate::printing::print_named;
-use crate::printing::print_words;
+use requests::loading::split_words;
+use requests::printing::print_named;
+use requests::printing::print_words;
 ghost use Prim.Native.Nat.{_≤_, _<_};
 
 fn wide(x: u32) -> u64

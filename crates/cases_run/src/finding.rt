@@ -1,9 +1,9 @@
 // Requests of kinds 10 and 20: facts are found for instructions, into a lent output of the old form or the second.
 use crate::digests::print_lent;
 use crate::digests::print_lent64;
-use crate::printing::print_answer;
-use crate::printing::print_counted;
-use crate::printing::say;
+use requests::printing::print_answer;
+use requests::printing::print_counted;
+use requests::printing::say;
 
 // The answer, the lent output afterwards, and what the checker says to the lines in it where there is room for them.
 fn answer_lent(rule: &[u32], instructions: &[u32], out: &mut [u32]) {

@@ -3,39 +3,38 @@
 // a number a word; kind 2 about the rule and a script; kinds 3 and 4 run the script, kind 6 weaves it first, and they go on as `runs` says;
 // kinds 5 and 10 weave the script and find facts for it, and go on with the length of the lent output; kinds 7 to 9 are `texts`'. Kinds 11 to 17
 // and 20 are kinds 1 to 7 and 10 of the second form, 21 and 23 move a rule and a script to it, 22 and 24 back, as long as kind 5. Kinds 25
-// and 26 put two scripts together, in the one form and in the other; half of the words are the first's. Kinds 27 and 28 are `fours`'. A 0 in
-// place of a kind is skipped. A count out of the buffers' range ends a block.
+// and 26 put two scripts together, in the one form and in the other; half of the words are the first's. Kinds 27 and 28 are those of crate
+// station_requests, 29 and 30 of limit_requests, 31 is one of `texts`'. A 0 in place of a kind is skipped. A count out of the buffers' range
+// ends a block.
 use crate::finding::answer_finding;
 use crate::finding::answer_finding64;
-use crate::fours::request_stations;
-use crate::loading::load_long;
-use crate::loading::load_numbers;
-use crate::loading::load_words;
-use crate::loading::size_of;
 use crate::moving::answer_back;
 use crate::moving::answer_up;
 use crate::pairs::answer_pair;
 use crate::pairs::answer_pair64;
-use crate::printing::print_answer;
-use crate::printing::print_number;
-use crate::printing::print_numbers;
-use crate::printing::print_refused;
-use crate::printing::say;
 use crate::runs::answer_machine;
 use crate::texts::request_text;
 use crate::weaving::answer_weaving;
 use crate::weaving::answer_weaving64;
+use limit_requests::request_limits;
+use requests::loading::load_long;
+use requests::loading::load_numbers;
+use requests::loading::load_words;
+use requests::loading::size_of;
+use requests::printing::print_answer;
+use requests::printing::print_number;
+use requests::printing::print_numbers;
+use requests::printing::print_refused;
+use requests::printing::say;
 use rule::answer::Verdict;
+use station_requests::request_stations;
 use words::word_at;
 ghost use Prim.Native.Nat.{_<_, _≤_, _+_};
 
 mod digests;
 mod finding;
-mod fours;
-mod loading;
 mod moving;
 mod pairs;
-mod printing;
 mod runs;
 mod texts;
 mod weaving;
@@ -184,11 +183,14 @@ fn request(s: &[u8], at: usize) -> usize
     if kind == 0 {
         return at + 1;
     }
-    if (7 <= kind) & (kind <= 9) | (kind == 17) {
+    if (7 <= kind) & (kind <= 9) | (kind == 17) | (kind == 31) {
         return request_text(s, kind, at);
     }
     if (kind == 27) | (kind == 28) {
         return request_stations(s, kind, at);
+    }
+    if (kind == 29) | (kind == 30) {
+        return request_limits(s, kind, at);
     }
     let nodes = word_at(s, at + 1) as usize;
     if 80 < nodes {

@@ -1,7 +1,7 @@
 // Requests of kinds 21 to 24: a rule and a script are moved to the second form, and back, into a lent output. It has ones everywhere.
 use crate::digests::print_lent;
 use crate::digests::print_lent64;
-use crate::printing::print_counted;
+use requests::printing::print_counted;
 use rule::answer::Counted;
 
 fn move_up(kind: u32, rule: &[u32], script: &[u32], out: &mut [u64]) -> Counted {

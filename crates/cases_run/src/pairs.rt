@@ -1,10 +1,10 @@
 // Requests of kinds 25 and 26: two annotated scripts, of the old form or the second, are checked and, where both are accepted, put together.
 use crate::digests::print_lent;
 use crate::digests::print_lent64;
-use crate::loading::load_long;
-use crate::loading::load_words;
-use crate::printing::print_answer;
-use crate::printing::say;
+use requests::loading::load_long;
+use requests::loading::load_words;
+use requests::printing::print_answer;
+use requests::printing::say;
 use rule::answer::Answer;
 use rule::stored::count_words;
 use rule::stored::put_word;

@@ -1,22 +1,20 @@
 // Requests of kinds 3, 4 and 6: a script is run with a budget, or step by step; a bare script is woven, and what was woven is run. Kinds 13,
 // 14 and 16 are the same of the second form.
-use crate::loading::load_numbers;
-use crate::loading::long;
-use crate::printing::print_answer;
-use crate::printing::print_named;
-use crate::printing::print_number;
-use crate::printing::print_numbers;
-use crate::printing::print_refused;
-use crate::printing::say;
 use checker::check_script;
 use checker::check_script64;
 use machine::Machine;
 use machine::answer::RunAnswer;
 use machine::answer::Stop;
+use requests::loading::load_numbers;
+use requests::loading::long;
+use requests::printing::print_answer;
+use requests::printing::print_named;
+use requests::printing::print_number;
+use requests::printing::print_numbers;
+use requests::printing::print_refused;
+use requests::printing::say;
+use requests::states::print_state;
 use rule::answer::Counted;
-use rule::shared::past_at;
-use rule::shared::work_at;
-use sets::has;
 use words::word_at;
 ghost use Prim.Native.Nat.{_≤_};
 
@@ -28,19 +26,6 @@ fn print_stop(s: Stop) {
         Stop::Dry => say(b"dry\n"),
         Stop::Full => say(b"full\n"),
     }
-}
-
-// The kept bits, or the work bits, of the nodes that have one, rising.
-fn print_bits(name: &[u8], rule: &[u32], rule64: &[u64], is_wide: bool, work: bool, bits: u64) {
-    say(name);
-    let mut k: usize = 0;
-    while k < 64 {
-        if past_at(rule, rule64, is_wide, k) | (work & work_at(rule, rule64, is_wide, k)) {
-            print_number(if has(bits, k) { 1 } else { 0 });
-        }
-        k += 1;
-    }
-    say(b"\n");
 }
 
 fn print_run(a: RunAnswer, with_steps: bool, history: &[u16]) {
@@ -65,17 +50,6 @@ fn answer_run(rule: &[u32], script: &[u32], inputs: &[u16], budget: u64, history
 fn answer_run64(rule: &[u64], script: &[u64], inputs: &[u16], budget: u64, history: &mut [u16]) {
     let a = machine::run64(rule, script, inputs, budget, history);
     print_run(a, true, &history[..]);
-}
-
-// A machine's state but for its readiness.
-pub(crate) fn print_state(m: Machine, rule: &[u32], rule64: &[u64], is_wide: bool) {
-    let registers = m.registers;
-    print_named(b"line", m.line as u64);
-    print_numbers(b"registers", &registers);
-    print_bits(b"kept", rule, rule64, is_wide, false, m.kept);
-    print_bits(b"work", rule, rule64, is_wide, true, m.work);
-    print_named(b"presentations", m.presentations as u64);
-    print_named(b"reads", m.reads as u64);
 }
 
 // How many states were ready, the next one included; it stops at the largest number.

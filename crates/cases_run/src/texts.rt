@@ -1,12 +1,13 @@
-// Requests of kinds 7 to 9 and 17, about a rule typed as text: kind, a number, byte count, bytes, which fill whole words. Kinds 7 and 17 read the
-// text into an output of that many words, of the old form and of the second; kind 8 is an input of the compile program; kind 9 reads the text with each of its bytes changed to every byte.
+// Requests of kinds 7 to 9, 17 and 31, which are bytes: kind, a number, byte count, bytes, which fill whole words. Kinds 7 and 17 read them as a
+// rule typed as text into an output of that many words, of the old form and of the second; kind 8 is an input of the compile program; kind 9
+// reads the text with each of its bytes changed to every byte; kind 31 is an input of the judge_limits program.
 use crate::digests::digest;
 use crate::digests::print_lent64;
-use crate::printing::print_counted;
-use crate::printing::print_named;
-use crate::printing::print_words;
-use crate::printing::say;
 use print::add_bytes;
+use requests::printing::print_counted;
+use requests::printing::print_named;
+use requests::printing::print_words;
+use requests::printing::say;
 use rule::answer::Counted;
 use text::read_text;
 use text::read_text64;
@@ -44,6 +45,12 @@ fn answer_text64(text: &[u8], length: usize) {
 fn answer_compile(bytes: &[u8]) {
     let mut text = [0u8; 512];
     let n = report::compile(bytes, &mut text);
+    say(&text[..n]);
+}
+
+fn answer_file(bytes: &[u8]) {
+    let mut text = [0u8; 74013];
+    let n = picture::judge_file(bytes, &mut text);
     say(&text[..n]);
 }
 
@@ -115,6 +122,8 @@ fn answer(kind: u32, number: usize, bytes: &[u8]) {
         answer_text64(bytes, number);
     } else if kind == 8 {
         answer_compile(bytes);
+    } else if kind == 31 {
+        answer_file(bytes);
     } else {
         answer_spoiled(bytes);
     }

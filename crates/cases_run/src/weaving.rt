@@ -1,9 +1,9 @@
 // Requests of kinds 5 and 15: a bare script is woven into a lent output, of the old form or the second.
 use crate::digests::print_lent;
 use crate::digests::print_lent64;
-use crate::printing::print_answer;
-use crate::printing::print_counted;
-use crate::printing::say;
+use requests::printing::print_answer;
+use requests::printing::print_counted;
+use requests::printing::say;
 
 // The answer of weaving, and the lent output afterwards.
 fn answer_lent(rule: &[u32], bare: &[u32], out: &mut [u32]) {

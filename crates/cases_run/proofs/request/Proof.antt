@@ -27,6 +27,12 @@ request-stations-requires c κs = search needs
 returns-3 : tie.Need-returns-3
 returns-3 c = search needs
 
+request-limits-requires : tie.Need-request-limits-requires
+request-limits-requires c κs = search needs
+
+returns-4 : tie.Need-returns-4
+returns-4 c = search needs
+
 add-word-at : tie.Need-add-word-at
 add-word-at c = search needs
 
@@ -36,8 +42,8 @@ word-at-requires-2 c κs = search needs
 cast-nodes : tie.Need-cast-nodes
 cast-nodes c = search needs
 
-returns-4 : tie.Need-returns-4
-returns-4 c = search needs
+returns-5 : tie.Need-returns-5
+returns-5 c = search needs
 
 add-start : tie.Need-add-start
 add-start c = search needs
@@ -60,8 +66,8 @@ word-at-requires-3 c κs = search needs
 cast-count : tie.Need-cast-count
 cast-count c = search needs
 
-returns-5 : tie.Need-returns-5
-returns-5 c = search needs
+returns-6 : tie.Need-returns-6
+returns-6 c = search needs
 
 has-long-nodes-requires-2 : tie.Need-has-long-nodes-requires-2
 has-long-nodes-requires-2 c κs = search needs
@@ -120,14 +126,14 @@ size-of-requires-2 c κs = search needs
 add-next : tie.Need-add-next
 add-next c = search needs
 
-returns-6 : tie.Need-returns-6
-returns-6 c = search needs
+returns-7 : tie.Need-returns-7
+returns-7 c = search needs
 
 add-result-2 : tie.Need-add-result-2
 add-result-2 c = search needs
 
-returns-7 : tie.Need-returns-7
-returns-7 c = search needs
+returns-8 : tie.Need-returns-8
+returns-8 c = search needs
 
 word-at-requires-4 : tie.Need-word-at-requires-4
 word-at-requires-4 c κs = search needs
@@ -135,8 +141,8 @@ word-at-requires-4 c κs = search needs
 cast-inputs : tie.Need-cast-inputs
 cast-inputs c = search needs
 
-returns-8 : tie.Need-returns-8
-returns-8 c = search needs
+returns-9 : tie.Need-returns-9
+returns-9 c = search needs
 
 add-result-3 : tie.Need-add-result-3
 add-result-3 c = search needs
@@ -144,8 +150,8 @@ add-result-3 c = search needs
 add-result-4 : tie.Need-add-result-4
 add-result-4 c = search needs
 
-returns-9 : tie.Need-returns-9
-returns-9 c = search needs
+returns-10 : tie.Need-returns-10
+returns-10 c = search needs
 
 pub request-spec : {M : Type 1} → statement M
 request-spec =
@@ -158,10 +164,12 @@ request-spec =
     returns-2
     request-stations-requires
     returns-3
+    request-limits-requires
+    returns-4
     add-word-at
     word-at-requires-2
     cast-nodes
-    returns-4
+    returns-5
     add-start
     has-long-nodes-requires
     size-of-requires
@@ -169,7 +177,7 @@ request-spec =
     sub-word-at
     word-at-requires-3
     cast-count
-    returns-5
+    returns-6
     has-long-nodes-requires-2
     add-load-long
     slice-aggregate-load-long
@@ -189,12 +197,12 @@ request-spec =
     has-long-words-requires-2
     size-of-requires-2
     add-next
-    returns-6
-    add-result-2
     returns-7
+    add-result-2
+    returns-8
     word-at-requires-4
     cast-inputs
-    returns-8
+    returns-9
     add-result-3
     add-result-4
-    returns-9)
+    returns-10)
