@@ -4,10 +4,9 @@
 --     limits-kept32, limits-kept64, depends-kept32, depends-kept64
 -- Assumes nothing.
 use mathlib.Core.Path.{_≡_, refl}
-use mathlib.Core.Bool.{Bool, true, false}
+use mathlib.Core.Bool.{true, false}
 use mathlib.Core.List.{List, [], _∷_, _++_, map}
 use Prim.Native.Nat.{ℕ}
-use lib.ListN.{replicate}
 use Rattle.spec.specs.Questions.{Answer, passed, refused}
 use Rattle.spec.specs.Rule.{form32, form64}
 use Rattle.spec.proofs.Compute.{everything}

@@ -6,19 +6,19 @@
 -- Assumes nothing.
 use mathlib.Core.Path.{_≡_, refl, sym, ap, ap₂, _∙_}
 use mathlib.Core.Logic.{inl, inr}
-use mathlib.Core.Bool.{Bool, true, false, cond, not}
+use mathlib.Core.Bool.{Bool, true, false, cond}
 use mathlib.Core.List.{List, [], _∷_, _++_}
-use Prim.Native.Nat.{ℕ, zero, suc, _+_, _*_, _/_, _≤_, _<_}
+use Prim.Native.Nat.{ℕ, zero, suc, _+_, _*_, _≤_, _<_}
 use native.Mathlib.Omega.{arith}
 use lib.ListN.{length, getD, take, drop, length-append, length-take, List·getD-append, List·getD-eq-default}
 use lib.Seq.{getD-take, getD-drop, getD-at}
 use lib.Dec.{eqb, leb}
 use borrow.Author.Tests.{eqb-true, leb-true}
 use native.Mathlib.Nat.{le-refl}
-use mathlib.Core.Option.{Option, none, some}
+use mathlib.Core.Option.{Option, some}
 use Rattle.spec.specs.Logic.{Trace, stateAt, registerOf, Formula, never, test, implies, since, weakPrevious, Satisfies, holds}
-use Rattle.spec.specs.Questions.{passed, _then_, firstFailing, askOnce}
-use Rattle.spec.specs.Rule.{Form, tableOf, ruleOf, checkRule}
+use Rattle.spec.specs.Questions.{passed, firstFailing}
+use Rattle.spec.specs.Rule.{Form, checkRule}
 use Rattle.spec.specs.Monitor.{sinceStep}
 use Rattle.spec.specs.Judging.{stateCount, statesOf, question14, question15, firstFalse, verdictFrom, verdictOn, judging}
 use Rattle.spec.proofs.BoolLaws.{clash, le-or-lt}
@@ -26,11 +26,11 @@ use Rattle.spec.proofs.LogicLaws.{agrees, since-first, since-next, weak-first, 
 use Rattle.spec.proofs.JudgingLaws.{length-states, state-at}
 use Rattle.spec.proofs.QuestionLaws.{then-passed, both-passed, once-out}
 use Rattle.intervals.specs.Limits.{Truth₃, false₃, true₃, open₃, known, implies₃, since₃, sinceAt, previousAt, truthAt, ruleTruth, question22, question13, question23, checkLimits, limiting, byteOf, bytesFor, answersFor, limitsOutput}
-use Rattle.intervals.specs.Reasons.{reasonAt, dependsOn}
-use Rattle.intervals.specs.LimitsPromise.{ruleIn, Within, LimitsRight, LimitsKept, registerAt, Narrower, Depends, DependsKept}
+use Rattle.intervals.specs.Reasons.{dependsOn}
+use Rattle.intervals.specs.LimitsPromise.{ruleIn, Within, LimitsRight, LimitsKept, registerAt, DependsKept}
 use Rattle.intervals.proofs.TruthLaws.{implies-known, since-known}
 use Rattle.intervals.proofs.TestLaws.{Between, test-known}
-use Rattle.intervals.proofs.ReasonLaws.{reason-truth, UpTo, settled, keeps}
+use Rattle.intervals.proofs.ReasonLaws.{reason-truth, settled, keeps}
 
 -- ---- exact limits
 

@@ -6,13 +6,13 @@
 -- Assumes nothing.
 use mathlib.Core.Path.{_≡_, refl, sym, ap, ap₂, subst, _∙_}
 use mathlib.Core.Bool.{Bool, true, false, not, _&&_, _||_}
-use Prim.Native.Nat.{ℕ, zero, suc, _≤_, zero-le}
+use Prim.Native.Nat.{ℕ, zero, suc, _≤_}
 use native.Mathlib.Nat.{le-refl, le-step, le-trans}
 use Rattle.spec.specs.Logic.{Trace, registerOf, stateAt, Test, Formula, never, test, implies, since, weakPrevious, passes, holds}
 use Rattle.spec.specs.Monitor.{sinceStep}
 use Rattle.spec.proofs.BoolLaws.{or-left, or-right}
 use Rattle.spec.proofs.LogicLaws.{since-first, since-next, weak-first, weak-next}
-use Rattle.intervals.specs.Limits.{Truth₃, false₃, true₃, open₃, known, can, openIf, testCan, test₃, implies₃, since₃, sinceAt, previousAt, truthAt}
+use Rattle.intervals.specs.Limits.{Truth₃, false₃, true₃, open₃, known, openIf, testCan, since₃, sinceAt, previousAt, truthAt}
 use Rattle.intervals.specs.Reasons.{Reason, always, not₃, opposite, or₃, orDepends, either, and₃, both, testRegisters, impliesReason, sinceReason, sinceReasonAt, previousReasonAt, reasonAt}
 use Rattle.intervals.proofs.TruthLaws.{known-true, known-false, open-known, open-only, implies-or, since-or, Narrow, or-narrow, not-narrow, narrow-known}
 use Rattle.intervals.proofs.TestLaws.{Between, test-can, test-is, test-narrow, test-same}

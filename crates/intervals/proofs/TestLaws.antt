@@ -18,7 +18,7 @@ use lib.Dec.{eqb, ltb, leb}
 use borrow.Author.Tests.{ltb-true, ltb-false, leb-true, eqb-true, eqb-false, lt-ltb, le-ltb, le-leb, eq-eqb, ne-eqb, not-true}
 use Rattle.spec.specs.Logic.{State, registerOf, Test, equal, below, equalRegisters, passes}
 use Rattle.spec.proofs.BoolLaws.{clash, and-both, both-and, or-either, or-left, or-right, decided, le-or-lt}
-use Rattle.intervals.specs.Limits.{known, can, openIf, testCan, test₃}
+use Rattle.intervals.specs.Limits.{known, can, testCan, test₃}
 use Rattle.intervals.specs.Reasons.{testRegisters}
 use Rattle.intervals.proofs.TruthLaws.{can-open, open-one}
 

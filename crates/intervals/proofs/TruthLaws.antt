@@ -9,8 +9,6 @@
 -- Assumes nothing.
 use mathlib.Core.Path.{_≡_, refl, sym, ap, _∙_}
 use mathlib.Core.Bool.{Bool, true, false, cond, not, _&&_, _||_, or-false}
-use native.Mathlib.Omega.{arith}
-use Prim.Native.Nat.{ℕ}
 use Rattle.spec.specs.Monitor.{sinceStep}
 use Rattle.spec.proofs.BoolLaws.{clash, or-mono, and-mono}
 use Rattle.intervals.specs.Limits.{Truth₃, false₃, true₃, open₃, known, can, openIf, over, implies₃, since₃}

@@ -1,6 +1,6 @@
 -- Request 2026-11, for the program that judges a file of limits: the registers that an answer depends on. Its sentence is the issue's, not
 -- document 02's; `LimitsPromise` says what depending means.
-use mathlib.Core.Bool.{Bool, true, false, cond, not, _&&_, _||_}
+use mathlib.Core.Bool.{Bool, true, false, not, _&&_, _||_}
 use mathlib.Core.List.{List}
 use Prim.Native.Nat.{ℕ, zero, suc}
 use lib.Dec.{eqb}

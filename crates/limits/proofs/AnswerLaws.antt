@@ -7,17 +7,17 @@
 use mathlib.Core.Path.{_≡_, refl, sym, ap, ap₂, subst, _∙_}
 use mathlib.Core.Logic.{inl, inr}
 use mathlib.Core.Bool.{Bool, true, false, _&&_}
-use mathlib.Core.List.{List, [], _∷_, _++_}
-use Prim.Native.Nat.{ℕ, zero, suc, _+_, _-_, _*_, _/_, _≤_, _<_}
+use mathlib.Core.List.{List, _++_}
+use Prim.Native.Nat.{ℕ, suc, _+_, _-_, _*_, _≤_, _<_}
 use native.Mathlib.Omega.{arith}
 use native.Mathlib.Numerals.{add-one}
 use lib.ListN.{length, getD, set, take, drop, length-append, length-drop, List·getD-eq-default}
 use lib.Seq.{drop-cons, set-at, append-snoc}
 use mir.Val.{boolByte}
 use borrow.Author.Tests.{leb-true}
-use Rattle.spec.specs.Logic.{State, Trace, stateAt, registerOf}
-use Rattle.spec.specs.Questions.{Answer, passed, refused, _then_}
-use Rattle.spec.specs.Rule.{Form, Table, lastNode, formulaAt}
+use Rattle.spec.specs.Logic.{State, Trace, stateAt}
+use Rattle.spec.specs.Questions.{Answer, passed, refused}
+use Rattle.spec.specs.Rule.{Form, Table, lastNode}
 use Rattle.spec.specs.Judging.{stateCount, statesOf}
 use Rattle.spec.proofs.BoolLaws.{le-or-lt}
 use Rattle.spec.proofs.JudgingLaws.{state-at}

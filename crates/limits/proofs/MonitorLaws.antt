@@ -3,16 +3,15 @@
 --     PriorsAt, priors-first, first-are       priors before an index, and the first ones
 --     values-at, priors-next                  from the priors: what every node can be, and the next priors
 -- Assumes nothing.
-use mathlib.Core.Path.{_≡_, refl, sym, ap, ap₂, subst, fun-ext, _∙_}
+use mathlib.Core.Path.{_≡_, refl, sym, ap, ap₂, fun-ext, _∙_}
 use mathlib.Core.Bool.{Bool, true, false, cond, not, _&&_, _||_}
 use mathlib.Core.List.{List}
 use Prim.Native.Nat.{ℕ, zero, suc, _≤_, _<_}
-use native.Mathlib.Nat.{le-refl}
 use native.Mathlib.Omega.{arith}
 use lib.ListN.{length}
 use lib.Dec.{eqb, ltb}
 use borrow.Author.Tests.{lt-ltb, le-ltb}
-use Rattle.spec.specs.Logic.{State, Trace, stateAt, registerOf, Formula, never, test, implies, since, weakPrevious}
+use Rattle.spec.specs.Logic.{State, Trace, stateAt, registerOf, since}
 use Rattle.spec.specs.Questions.{all}
 use Rattle.spec.specs.Rule.{form64, Node, falseNode, testNode, impliesNode, sinceNode, weakPreviousNode, Table, nodeAt, isWeakPrevious, isPast, operands, formulaFrom, formulaAt, nextFrom, nextOf}
 use mathlib.Core.Logic.{inl, inr}
@@ -26,12 +25,12 @@ use Rattle.sets.proofs.WordLaws.{full-set}
 use Rattle.rule.specs.Nodes.{formIn, RulePasses}
 use Rattle.rule.specs.Monitor.{firstPriors}
 use Rattle.rule.proofs.MonitorLaws.{first-is}
-use Rattle.intervals.specs.Limits.{Truth₃, false₃, true₃, can, test₃, implies₃, since₃, sinceAt, previousAt, truthAt}
+use Rattle.intervals.specs.Limits.{Truth₃, false₃, can, since₃, sinceAt, previousAt, truthAt}
 use Rattle.intervals.proofs.TruthLaws.{implies-can, since-can}
 use Rattle.intervals.proofs.TestLaws.{test-is}
 use Rattle.limits.specs.declared.monitor.Can.{Can}
 use Rattle.limits.specs.declared.monitor.Cans.{Cans}
-use Rattle.limits.specs.Monitor.{Values, canOf, none, impliesCan, sinceCan, NodeValues, cansOf, Now, nodeCan, nodeNext, joining, withNode, nowBelow, nowAt, firstCans}
+use Rattle.limits.specs.Monitor.{canOf, none, impliesCan, sinceCan, NodeValues, cansOf, nodeCan, nodeNext, joining, withNode, nowBelow, nowAt, firstCans}
 
 -- ---- pairs and sets
 

@@ -10,7 +10,7 @@ use Prim.Native.Nat.{ℕ, _/_, _%_, _≤_, _<_}
 use lib.ListN.{length, getD}
 use lib.Dec.{eqb, leb}
 use borrow.Author.Tests.{eqb-true, eq-eqb, ne-eqb, le-leb, lt-leb}
-use Rattle.spec.specs.Questions.{passed, refused, Checked, _then_, allBelow}
+use Rattle.spec.specs.Questions.{passed, refused, _then_, allBelow}
 use Rattle.spec.specs.Rule.{Form, checkRule}
 use Rattle.spec.specs.Judging.{question14, question15}
 use Rattle.spec.proofs.QuestionLaws.{then-passed, then-refused, both-passed, then-assoc, once-in, once-no, once-out, ask-in, below-out}

@@ -2,12 +2,12 @@
 --     judged-holds     judging by the table is judging by the rule
 --     judged-long      a rule of more than 32 words
 -- Assumes nothing.
-use mathlib.Core.Path.{_≡_, refl, sym, ap, ap₂, subst, _∙_}
+use mathlib.Core.Path.{_≡_, ap, ap₂, _∙_}
 use mathlib.Core.List.{List, _++_}
 use Prim.Native.Nat.{ℕ, _≤_, _<_}
 use lib.ListN.{length, take, drop}
-use Rattle.spec.specs.Questions.{Answer, refused, _then_}
-use Rattle.spec.specs.Rule.{form32, form64, Table, tableOf, ruleOf, checkRule}
+use Rattle.spec.specs.Questions.{Answer, refused}
+use Rattle.spec.specs.Rule.{form32, form64, ruleOf, checkRule}
 use Rattle.spec.specs.Judging.{statesOf}
 use Rattle.spec.proofs.QuestionLaws.{then-refused}
 use Rattle.moves.specs.Moves.{widenRule}

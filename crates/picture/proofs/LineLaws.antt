@@ -4,7 +4,7 @@
 --     reason-none, reason-some              what a line says of registers
 --     lineAt                                the line of an index, from lists
 -- Assumes nothing.
-use mathlib.Core.Path.{_≡_, sym}
+use mathlib.Core.Path.{_≡_}
 use mathlib.Core.Bool.{Bool, true, false}
 use mathlib.Core.List.{List, [], _++_}
 use Prim.Native.Nat.{ℕ}

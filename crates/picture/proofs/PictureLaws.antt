@@ -6,9 +6,9 @@
 --     loaded-few, picture-is                  and of the rule as it was loaded
 -- Assumes nothing.
 use mathlib.Core.Path.{_≡_, refl, sym, ap, ap₂, _∙_}
-use mathlib.Core.Bool.{true, false, cond}
-use mathlib.Core.List.{List, [], _∷_, _++_}
-use Prim.Native.Nat.{ℕ, _+_, _*_, _/_, _≤_, _<_}
+use mathlib.Core.Bool.{true, false}
+use mathlib.Core.List.{List, _++_}
+use Prim.Native.Nat.{ℕ, _+_, _*_, _≤_, _<_}
 use native.Mathlib.Omega.{arith}
 use lib.ListN.{length, getD, take, drop, replicate, List·getD-append, length-replicate}
 use borrow.Author.Tests.{le-leb}
@@ -26,7 +26,6 @@ use Rattle.print.proofs.AddedLaws.{each-same, loaded, front-is}
 use Rattle.intervals.specs.Limits.{Truth₃, truthAt, ruleTruth, question22, question13, question23, checkLimits, limiting, byteOf, bytesFor, answersFor, limitsOutput}
 use Rattle.intervals.specs.Reasons.{reasonAt, dependsOn}
 use Rattle.intervals.proofs.LimitsLaws.{length-bytes, byte-at}
-use Rattle.reasons.specs.Registers.{setsIn}
 use Rattle.reasons.specs.Written.{RegistersPut}
 use Rattle.words.specs.Words.{wordAt}
 use Rattle.words.specs.Counted.{counted}
@@ -34,7 +33,7 @@ use Rattle.words.proofs.CountedLaws.{length-counted}
 use Rattle.spec.proofs.RuleLaws.{rule-out}
 use Rattle.picture.specs.File.{isWhole, limitsFrom, lowsIn, highsIn}
 use Rattle.picture.specs.Lines.{indexText, linesText}
-use Rattle.picture.specs.Picture.{answerText, limitsText, tooFew, afterRule, fileText, pictureOf}
+use Rattle.picture.specs.Picture.{answerText, limitsText, tooFew, fileText, pictureOf}
 
 -- ---- an output with space for every index changes no answer
 

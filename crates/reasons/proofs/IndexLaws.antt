@@ -1,9 +1,8 @@
 -- Index after index: what the answers depend on.
 --     Told, told-start, told-next, told-end      a loop over the indices
 -- Assumes nothing.
-use mathlib.Core.Path.{_≡_, refl, sym, ap, ap₂, subst, _∙_}
+use mathlib.Core.Path.{_≡_, refl, sym, ap, subst, _∙_}
 use mathlib.Core.Logic.{inl, inr}
-use mathlib.Core.Bool.{true, false}
 use mathlib.Core.List.{List}
 use Prim.Native.Nat.{ℕ, zero, suc, _+_, _-_, _*_, _≤_, _<_}
 use native.Mathlib.Omega.{arith}
@@ -12,7 +11,7 @@ use lib.ListN.{length, getD, set, take, drop, replicate, length-set}
 use lib.Seq.{getD-set-same, getD-set-other, drop-set-lt}
 use Rattle.spec.specs.Logic.{State, Trace}
 use Rattle.spec.specs.Questions.{passed}
-use Rattle.spec.specs.Rule.{Table, nodeAt, lastNode, isPast, nextOf}
+use Rattle.spec.specs.Rule.{Table, lastNode, nextOf}
 use Rattle.spec.specs.Judging.{stateCount, statesOf}
 use Rattle.spec.proofs.BoolLaws.{le-or-lt}
 use Rattle.spec.proofs.RuleLaws.{RuleOut, rule-out, length-table, past-in}

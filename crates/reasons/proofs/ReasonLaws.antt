@@ -3,7 +3,7 @@
 --     true-is, not-true, first-true, second-true     "or" where one is true
 --     rest-truth, first-open, second-open, alike     and where none is
 -- Assumes nothing.
-use mathlib.Core.Path.{_≡_, refl, sym, ap, _∙_}
+use mathlib.Core.Path.{_≡_, refl, sym, ap}
 use mathlib.Core.Bool.{Bool, true, false, not, _&&_, _||_}
 use Prim.Native.Nat.{ℕ}
 use Rattle.spec.proofs.BoolLaws.{clash}

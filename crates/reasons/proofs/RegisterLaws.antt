@@ -7,8 +7,8 @@
 -- Assumes nothing.
 use mathlib.Core.Path.{_≡_, refl, sym, ap, ap₂, fun-ext, _∙_}
 use mathlib.Core.Logic.{inl, inr}
-use mathlib.Core.Bool.{Bool, true, false, not, _&&_, _||_, and-false, and-true}
-use mathlib.Core.List.{List, [], _∷_}
+use mathlib.Core.Bool.{true, false, not, _&&_, _||_, and-true}
+use mathlib.Core.List.{List}
 use Prim.Native.Nat.{ℕ, zero, suc, _≤_, _<_}
 use native.Mathlib.Nat.{le-refl}
 use native.Mathlib.Omega.{arith}
@@ -16,14 +16,14 @@ use lib.ListN.{length, getD, set}
 use lib.Seq.{getD-set-same, getD-set-other}
 use lib.Dec.{eqb, ltb}
 use borrow.Author.Tests.{eq-eqb, ne-eqb}
-use Rattle.spec.specs.Logic.{Trace, Test, equalRegisters, since, Formula}
+use Rattle.spec.specs.Logic.{Trace, equalRegisters, since}
 use Rattle.spec.specs.Questions.{all}
 use Rattle.spec.specs.Rule.{Node, falseNode, testNode, impliesNode, sinceNode, weakPreviousNode, Table, nodeAt, isPast, operands, formulaFrom, formulaAt, nextFrom, nextOf}
 use Rattle.spec.proofs.BoolLaws.{clash, le-or-lt}
 use Rattle.spec.proofs.RuleLaws.{InOrder, both-lower, one-lower, by-lower, LooksAt, through-is, formula-is}
 use Rattle.sets.specs.Sets.{setOf, adding}
 use Rattle.sets.proofs.SetLaws.{empty-is, empty-set, adding-is}
-use Rattle.intervals.specs.Limits.{Truth₃, can, openIf, truthAt}
+use Rattle.intervals.specs.Limits.{Truth₃, can, openIf}
 use Rattle.intervals.specs.Reasons.{Reason, always, testRegisters, impliesReason, sinceReason, sinceReasonAt, previousReasonAt, reasonAt}
 use Rattle.intervals.proofs.TruthLaws.{open-can}
 use Rattle.intervals.proofs.ReasonLaws.{reason-truth}

@@ -1,3 +1,4 @@
+-- `picture::put_limits` meets its contract (`PictureLaws`). Assumes nothing.
 use mathlib.Core.Path.{sym, ap, _∙_}
 use native.Mathlib.Omega.{arith}
 use Rattle.rule.specs.Answers.{countedOf}
@@ -7,66 +8,46 @@ use Rattle.picture.proofs.PictureLaws.{limits-no, limits-yes, sets-aske
 use borrow.Author.Needs.{needs}
 use Rattle.picture.proofs.put_limits.Statement.{statement}
 use Rattle.picture.proofs.put_limits.Tie as tie
-use Rattle.picture.proofs.put_limits.Reads as reads
-use Rattle.picture.proofs.put_limits.Lts as lts
-use Rattle.limits.proofs.judge64.Reads as judge64-reads
-use Rattle.picture.proofs.lines.put_lines.Reads as put-lines-reads
-use Rattle.print.proofs.add_refused.Reads as add-refused-reads
-use Rattle.reasons.proofs.put_registers.Reads as put-registers-reads
 
--- src/lib.rt:36:45
 slice-aggregate-judge64 : tie.Need-slice-aggregate-judge64
 slice-aggregate-judge64 c = search needs
 
--- src/lib.rt:36:9
 judge64-requires : tie.Need-judge64-requires
 judge64-requires c κs = search needs
 
--- src/lib.rt:38:28
 enum-known-judged : tie.Need-enum-known-judged
 enum-known-judged c = search needs
 
--- src/lib.rt:38:49
 add-refused-requires : tie.Need-add-refused-requires
 add-refused-requires c κs = search needs
 
--- src/lib.rt:39:24
 enum-known-judged-2 : tie.Need-enum-known-judged-2
 enum-known-judged-2 c = search needs
 
--- src/lib.rt:41:46
 slice-aggregate-put-registers : tie.Need-slice-aggregate-put-registers
 slice-aggregate-put-registers c = search needs
 
--- src/lib.rt:41:13
 put-registers-requires : tie.Need-put-registers-requires
 put-registers-requires c κs = let s = c .before .before .before .before .before .before .before .before .before .before .before in let a = s .args in let few = s .pre .0 in let room = s .pre .1 in sets-asked formIn (a .rule .now) (a .lows .now) (a .highs .now) _ (omega arith) _ (sym (ap countedOf (c .before .before .judged2 .given .1)) ∙ c .before .before .before .before .before .judge64 .ensures .0) _ (omega arith)
 
--- src/lib.rt:42:23
 slice-aggregate-put-lines : tie.Need-slice-aggregate-put-lines
 slice-aggregate-put-lines c = search needs
 
--- src/lib.rt:42:33
 slice-aggregate-put-lines-2 : tie.Need-slice-aggregate-put-lines-2
 slice-aggregate-put-lines-2 c = search needs
 
--- src/lib.rt:42:13
 put-lines-requires : tie.Need-put-lines-requires
 put-lines-requires c κs = let s = c .before .before .before .before .before .before .before .before .before .before .before .before .before .before .before .before in let a = s .args in let few = s .pre .0 in let room = s .pre .1 in let count = count-is formIn (a .rule .now) (a .lows .now) (a .highs .now) _ (omega arith) _ (sym (ap countedOf (c .before .before .before .before .before .before .before .judged2 .given .1)) ∙ c .before .before .before .before .before .before .before .before .before .before .judge64 .ensures .0) in let k = c .before .before .before .before .before .before .before .before .before .before .judge64 .kept .1 .1 .1 .0 in let m = c .before .before .before .before .put-registers .kept .1 .1 .1 .0 in (omega arith, omega arith, omega arith, omega arith)
 
--- src/lib.rt:31:1
 same-length : tie.Need-same-length
 same-length c = search needs
 
--- src/lib.rt:31:1
 returns : tie.Need-returns
 returns c = let s = c .before .before .before .before .before .before .before .before .before .before .before .before .before .before in let a = s .args in let few = s .pre .0 in let room = s .pre .1 in added-as _ _ 0 _ _ _ (limits-no formIn (a .rule .now) (a .lows .now) (a .highs .now) _ (omega arith) _ _ (sym (ap countedOf (c .before .before .before .before .before .judged .given .1)) ∙ c .before .before .before .before .before .before .before .before .judge64 .ensures .0)) (c .before .before .add-refused .ensures .added)
 
--- src/lib.rt:31:1
 same-length-2 : tie.Need-same-length-2
 same-length-2 c = search needs
 
--- src/lib.rt:31:1
 returns-2 : tie.Need-returns-2
 returns-2 c = let s = c .before .before .before .before .before .before .before .before .before .before .before .before .before .before .before .before .before .before .before in let a = s .args in let few = s .pre .0 in let room = s .pre .1 in added-as _ _ 0 _ _ _ (limits-yes formIn (a .rule .now) (a .lows .now) (a .highs .now) _ (omega arith) _ (sym (ap countedOf (c .before .before .before .before .before .before .before .before .before .before .judged2 .given .1)) ∙ c .before .before .before .before .before .before .before .before .before .before .before .before .before .judge64 .ensures .0) _ (c .before .before .before .before .before .before .before .before .before .before .before .before .before .judge64 .ensures .1 .0) _ _ (c .before .before .before .before .before .before .before .put-registers .ensures)) (c .before .before .put-lines .ensures)
 

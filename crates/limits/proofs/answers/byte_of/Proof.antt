@@ -1,25 +1,20 @@
+-- `limits::answers::byte_of` meets its contract (`AnswerLaws`). Assumes nothing.
 use mathlib.Core.Bool.{_&&_}
 use native.Mathlib.Omega.{arith}
 use Rattle.limits.proofs.AnswerLaws.{bit, byte-is}
 use borrow.Author.Needs.{needs}
 use Rattle.limits.proofs.answers.byte_of.Statement.{statement}
 use Rattle.limits.proofs.answers.byte_of.Tie as tie
-use Rattle.limits.proofs.answers.byte_of.Reads as reads
-use Rattle.limits.proofs.answers.byte_of.Lts as lts
 
--- src/answers.rt:18:5
 cast-result : tie.Need-cast-result
 cast-result c = search needs
 
--- src/answers.rt:18:19
 cast-result-2 : tie.Need-cast-result-2
 cast-result-2 c = search needs
 
--- src/answers.rt:18:5
 add-result : tie.Need-add-result
 add-result c = let a = c .before .before .args in omega (arith, bit (a .x .yes), bit (a .x .yes && a .x .no))
 
--- src/answers.rt:15:1
 returns : tie.Need-returns
 returns c = let a = c .before .before .args in byte-is (a .x .yes) (a .x .no)
 

@@ -1,3 +1,4 @@
+-- `limits::answers::put_answers` meets its contract (`AnswerLaws`, `MonitorLaws`); before index i the output has the answers below i, and the priors are those after them. The measure is what is left to go through. Assumes nothing.
 use Prim.Native.Nat.{_-_, _+_, _*_}
 use mathlib.Core.Path.{_≡_, ap}
 use native.Mathlib.Omega.{arith}
@@ -11,12 +12,6 @@ use Rattle.limits.proofs.AnswerLaws.{Worked, worked-start, worked-next,
 use Rattle.limits.specs.Monitor.{cansOf}
 use Rattle.limits.proofs.answers.put_answers.Statement.{statement}
 use Rattle.limits.proofs.answers.put_answers.Tie as tie
-use Rattle.limits.proofs.answers.put_answers.Reads as reads
-use Rattle.limits.proofs.answers.put_answers.Lts as lts
-use Rattle.limits.proofs.answers.byte_of.Reads as byte-of-reads
-use Rattle.limits.proofs.monitor.can_at.Reads as can-at-reads
-use Rattle.limits.proofs.monitor.evaluate.Reads as evaluate-reads
-use Rattle.limits.proofs.monitor.first_cans.Reads as first-cans-reads
 
 abbrev Inv-loop : tie.InvT-loop
 Inv-loop rule lows highs out₀ count last priors₀ i₀ out priors i = Worked rule lows highs out₀ i (cansOf priors) out
@@ -24,83 +19,63 @@ Inv-loop rule lows highs out₀ count last priors₀ i₀ out priors i = Worked 
 abbrev μ-loop : tie.MeasureT-loop
 μ-loop rule lows highs out₀ count last priors₀ i₀ out priors i = count - i
 
--- src/answers.rt:27:16
 sub-last : tie.Need-sub-last Inv-loop μ-loop
 sub-last c = let n = rule-out formIn (c .before .before .before .before .args .rule .now) (asked-out formIn _ _ _ _ (c .before .before .before .before .pre) .rule-yes) .some-node in omega arith
 
--- src/answers.rt:28:9
 first-cans-requires : tie.Need-first-cans-requires Inv-loop μ-loop
 first-cans-requires c κs = search needs
 
--- src/answers.rt:30:5
 loop-holds : tie.Need-loop-holds Inv-loop μ-loop
 loop-holds c = let a = c .before .before .before .before .before .args in worked-start (a .rule .now) (a .lows .now) (a .highs .now) (a .out .now) (c .before .before .before .before .before .pre) _ (c .first-cans .ensures)
 
--- src/answers.rt:31:18
 mul-at : tie.Need-mul-at Inv-loop μ-loop
 mul-at c = search needs
 
--- src/answers.rt:32:19
 add-end : tie.Need-add-end Inv-loop μ-loop
 add-end c = search needs
 
--- src/answers.rt:33:32
 mul-evaluate : tie.Need-mul-evaluate Inv-loop μ-loop
 mul-evaluate c = search needs
 
--- src/answers.rt:33:32
 sub-evaluate : tie.Need-sub-evaluate Inv-loop μ-loop
 sub-evaluate c = search needs
 
--- src/answers.rt:33:32
 part-evaluate-start : tie.Need-part-evaluate-start Inv-loop μ-loop
 part-evaluate-start c = search needs
 
--- src/answers.rt:33:32
 part-evaluate-end : tie.Need-part-evaluate-end Inv-loop μ-loop
 part-evaluate-end c = search needs
 
--- src/answers.rt:33:48
 mul-evaluate-2 : tie.Need-mul-evaluate-2 Inv-loop μ-loop
 mul-evaluate-2 c = search needs
 
--- src/answers.rt:33:48
 sub-evaluate-2 : tie.Need-sub-evaluate-2 Inv-loop μ-loop
 sub-evaluate-2 c = search needs
 
--- src/answers.rt:33:48
 part-evaluate-start-2 : tie.Need-part-evaluate-start-2 Inv-loop μ-loop
 part-evaluate-start-2 c = search needs
 
--- src/answers.rt:33:48
 part-evaluate-end-2 : tie.Need-part-evaluate-end-2 Inv-loop μ-loop
 part-evaluate-end-2 c = let same = asked-out formIn _ _ _ _ (c .before .before .before .before .before .before .before .before .pre) .same-length in search needs
 
--- src/answers.rt:33:13
 evaluate-requires : tie.Need-evaluate-requires Inv-loop μ-loop
 evaluate-requires c κs = let same = asked-out formIn _ _ _ _ (c .before .before .before .before .before .before .before .before .before .pre) .same-length in (simp (length-take, length-drop) (omega arith), simp (length-take, length-drop) (omega arith), asked-out formIn _ _ _ _ (c .before .before .before .before .before .before .before .before .before .pre) .rule-yes)
 
--- src/answers.rt:36:26
 can-at-requires : tie.Need-can-at-requires Inv-loop μ-loop
 can-at-requires c κs = let few = few-held (c .before .before .before .before .before .before .before .before .before .before .before .before .args .rule .now) (asked-out formIn _ _ _ _ (c .before .before .before .before .before .before .before .before .before .before .before .before .pre) .rule-yes) in let n = rule-out formIn (c .before .before .before .before .before .before .before .before .before .before .before .before .args .rule .now) (asked-out formIn _ _ _ _ (c .before .before .before .before .before .before .before .before .before .before .before .before .pre) .rule-yes) .some-node in omega arith
 
--- src/answers.rt:36:18
 byte-of-requires : tie.Need-byte-of-requires Inv-loop μ-loop
 byte-of-requires c κs = search needs
 
--- src/answers.rt:36:9
 slice-write-out : tie.Need-slice-write-out Inv-loop μ-loop
 slice-write-out c = let a = c .before .before .before .before .before .before .before .before .before .before .before .before .before .before .args in let l = c .before .before .before .before .before .before .before .before .loop in in-output (a .rule .now) (a .lows .now) (a .highs .now) (a .out .now) (c .before .before .before .before .before .before .before .before .before .before .before .before .before .before .pre) (l .i) (c .before .before .before .before .before .before .before .loop-test .taken) (cansOf (l .priors)) (l .out) (l .inv)
 
--- src/answers.rt:38:9
 add-i : tie.Need-add-i Inv-loop μ-loop
 add-i c = search needs
 
--- src/answers.rt:30:5
 loop-less : tie.Need-loop-less Inv-loop μ-loop
 loop-less c = search needs
 
--- src/answers.rt:30:5
 loop-again : tie.Need-loop-again Inv-loop μ-loop
 loop-again c = let a = c .before .before .before .before .before .before .before .before .before .before .before .before .before .before .args in
     let l = c .before .before .before .before .before .before .before .before .loop in
@@ -109,11 +84,9 @@ loop-again c = let a = c .before .before .before .before .before .before .before
     (take (16 * l .i + 16 - 16 * l .i) (drop (16 * l .i) (a .lows .now))) (take (16 * l .i + 16 - 16 * l .i) (drop (16 * l .i) (a .highs .now))) (ap (λ n. take n (drop (16 * l .i) (a .lows .now))) z) (ap (λ n. take n (drop (16 * l .i) (a .highs .now))) z)
     _ (c .before .before .before .before .evaluate .ensures) _ (c .before .can-at .ensures) _ (c .byte-of .ensures)
 
--- src/answers.rt:22:1
 same-length : tie.Need-same-length Inv-loop μ-loop
 same-length c = let a = c .before .before .before .before .before .before .before .args in keeps-length (a .rule .now) (a .lows .now) (a .highs .now) (a .out .now) (c .before .before .before .before .before .before .before .pre) _ _ _ (c .before .loop .inv)
 
--- src/answers.rt:22:1
 returns : tie.Need-returns Inv-loop μ-loop
 returns c = let a = c .before .before .before .before .before .before .before .args in worked-end (a .rule .now) (a .lows .now) (a .highs .now) (a .out .now) (c .before .before .before .before .before .before .before .pre) _ _ _ (c .loop-test .left) (c .before .loop .inv)
 

@@ -1,29 +1,23 @@
+-- `limits::monitor::below_can` meets its contract (`MonitorLaws`). Assumes nothing.
 use mathlib.Core.Path.{refl}
 use Rattle.intervals.specs.Limits.{testCan}
 use Rattle.limits.proofs.MonitorLaws.{both-sides}
 use borrow.Author.Needs.{needs}
 use Rattle.limits.proofs.monitor.below_can.Statement.{statement}
 use Rattle.limits.proofs.monitor.below_can.Tie as tie
-use Rattle.limits.proofs.monitor.below_can.Reads as reads
-use Rattle.limits.proofs.monitor.below_can.Lts as lts
 
--- src/monitor.rt:77:14
 mul-t5 : tie.Need-mul-t5
 mul-t5 c = search needs
 
--- src/monitor.rt:77:14
 shared-slice-read-t7 : tie.Need-shared-slice-read-t7
 shared-slice-read-t7 c = search needs
 
--- src/monitor.rt:78:25
 mul-t9 : tie.Need-mul-t9
 mul-t9 c = search needs
 
--- src/monitor.rt:78:25
 shared-slice-read-t11 : tie.Need-shared-slice-read-t11
 shared-slice-read-t11 c = search needs
 
--- src/monitor.rt:72:1
 returns : tie.Need-returns
 unfolding testCan
 returns c = both-sides refl refl

@@ -1,29 +1,23 @@
+-- `limits::monitor::equal_can` meets its contract (`MonitorLaws`). Assumes nothing.
 use mathlib.Core.Path.{refl}
 use Rattle.intervals.specs.Limits.{testCan}
 use Rattle.limits.proofs.MonitorLaws.{both-sides}
 use borrow.Author.Needs.{needs}
 use Rattle.limits.proofs.monitor.equal_can.Statement.{statement}
 use Rattle.limits.proofs.monitor.equal_can.Tie as tie
-use Rattle.limits.proofs.monitor.equal_can.Reads as reads
-use Rattle.limits.proofs.monitor.equal_can.Lts as lts
 
--- src/monitor.rt:63:13
 mul-a : tie.Need-mul-a
 mul-a c = search needs
 
--- src/monitor.rt:63:13
 shared-slice-read-a : tie.Need-shared-slice-read-a
 shared-slice-read-a c = search needs
 
--- src/monitor.rt:64:13
 mul-b : tie.Need-mul-b
 mul-b c = search needs
 
--- src/monitor.rt:64:13
 shared-slice-read-b : tie.Need-shared-slice-read-b
 shared-slice-read-b c = search needs
 
--- src/monitor.rt:59:1
 returns : tie.Need-returns
 unfolding testCan
 returns c = both-sides refl refl

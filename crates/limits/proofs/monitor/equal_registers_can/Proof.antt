@@ -1,45 +1,35 @@
+-- `limits::monitor::equal_registers_can` meets its contract (`MonitorLaws`). Assumes nothing.
 use mathlib.Core.Path.{refl}
 use Rattle.intervals.specs.Limits.{testCan}
 use Rattle.limits.proofs.MonitorLaws.{both-sides}
 use borrow.Author.Needs.{needs}
 use Rattle.limits.proofs.monitor.equal_registers_can.Statement.{statement}
 use Rattle.limits.proofs.monitor.equal_registers_can.Tie as tie
-use Rattle.limits.proofs.monitor.equal_registers_can.Reads as reads
-use Rattle.limits.proofs.monitor.equal_registers_can.Lts as lts
 
--- src/monitor.rt:87:13
 mul-a : tie.Need-mul-a
 mul-a c = search needs
 
--- src/monitor.rt:87:13
 shared-slice-read-a : tie.Need-shared-slice-read-a
 shared-slice-read-a c = search needs
 
--- src/monitor.rt:88:13
 mul-b : tie.Need-mul-b
 mul-b c = search needs
 
--- src/monitor.rt:88:13
 shared-slice-read-b : tie.Need-shared-slice-read-b
 shared-slice-read-b c = search needs
 
--- src/monitor.rt:89:13
 mul-c : tie.Need-mul-c
 mul-c c = search needs
 
--- src/monitor.rt:89:13
 shared-slice-read-c : tie.Need-shared-slice-read-c
 shared-slice-read-c c = search needs
 
--- src/monitor.rt:90:13
 mul-d : tie.Need-mul-d
 mul-d c = search needs
 
--- src/monitor.rt:90:13
 shared-slice-read-d : tie.Need-shared-slice-read-d
 shared-slice-read-d c = search needs
 
--- src/monitor.rt:83:1
 returns : tie.Need-returns
 unfolding testCan
 returns c = both-sides refl refl

@@ -1,32 +1,23 @@
+-- `limits::monitor::evaluate_node` meets its contract. Assumes nothing.
 use Rattle.limits.specs.Monitor.{cansOf, nodeNext, joining, withNode}
 use Rattle.rule.specs.Nodes.{nodeRead}
 use mathlib.Core.Path.{ap, _∙_}
 use borrow.Author.Needs.{needs}
 use Rattle.limits.proofs.monitor.evaluate_node.Statement.{statement}
 use Rattle.limits.proofs.monitor.evaluate_node.Tie as tie
-use Rattle.limits.proofs.monitor.evaluate_node.Reads as reads
-use Rattle.limits.proofs.monitor.evaluate_node.Lts as lts
-use Rattle.limits.proofs.monitor.next_can.Reads as next-can-reads
-use Rattle.limits.proofs.monitor.node_can.Reads as node-can-reads
-use Rattle.limits.proofs.monitor.with_can.Reads as with-can-reads
 
--- src/monitor.rt:174:9
 node-can-requires : tie.Need-node-can-requires
 node-can-requires c κs = search needs
 
--- src/monitor.rt:176:17
 with-can-requires : tie.Need-with-can-requires
 with-can-requires c κs = search needs
 
--- src/monitor.rt:177:35
 next-can-requires : tie.Need-next-can-requires
 next-can-requires c κs = search needs
 
--- src/monitor.rt:177:17
 with-can-requires-2 : tie.Need-with-can-requires-2
 with-can-requires-2 c κs = search needs
 
--- src/monitor.rt:168:1
 returns : tie.Need-returns
 unfolding withNode
 returns c = let a = c .before .before .before .before .before .before .before .before .args in

@@ -1,11 +1,9 @@
+-- `limits::monitor::implies_can` meets its contract (`MonitorLaws`). Assumes nothing.
 use mathlib.Core.Path.{refl}
 use Rattle.limits.proofs.MonitorLaws.{both-sides}
 use Rattle.limits.proofs.monitor.implies_can.Statement.{statement}
 use Rattle.limits.proofs.monitor.implies_can.Tie as tie
-use Rattle.limits.proofs.monitor.implies_can.Reads as reads
-use Rattle.limits.proofs.monitor.implies_can.Lts as lts
 
--- src/monitor.rt:98:1
 returns : tie.Need-returns
 returns c = both-sides refl refl
 

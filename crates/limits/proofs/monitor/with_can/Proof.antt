@@ -1,20 +1,15 @@
+-- `limits::monitor::with_can` meets its contract (`MonitorLaws`). Assumes nothing.
 use Rattle.limits.proofs.MonitorLaws.{joins}
 use borrow.Author.Needs.{needs}
 use Rattle.limits.proofs.monitor.with_can.Statement.{statement}
 use Rattle.limits.proofs.monitor.with_can.Tie as tie
-use Rattle.limits.proofs.monitor.with_can.Reads as reads
-use Rattle.limits.proofs.monitor.with_can.Lts as lts
-use Rattle.sets.proofs.with_node_if.Reads as with-node-if-reads
 
--- src/monitor.rt:53:14
 with-node-if-requires : tie.Need-with-node-if-requires
 with-node-if-requires c κs = search needs
 
--- src/monitor.rt:54:13
 with-node-if-requires-2 : tie.Need-with-node-if-requires-2
 with-node-if-requires-2 c κs = search needs
 
--- src/monitor.rt:48:1
 returns : tie.Need-returns
 returns c = let a = c .before .before .args in joins (a .s) _ (a .k) (a .x) (c .before .before .pre) (c .before .with-node-if .ensures) (c .with-node-if2 .ensures)
 

@@ -1,3 +1,4 @@
+-- `limits::question::ask_order` meets its contract (`QuestionLaws`); no low before position i was above its high. The measure is what is left to go through. Assumes nothing.
 use Prim.Native.Nat.{_-_}
 use mathlib.Core.Path.{_≡_, sym, _∙_}
 use lib.ListN.{length}
@@ -8,9 +9,6 @@ use Rattle.intervals.specs.Limits.{question23}
 use Rattle.limits.proofs.QuestionLaws.{inOrder, order-yes}
 use Rattle.limits.proofs.question.ask_order.Statement.{statement}
 use Rattle.limits.proofs.question.ask_order.Tie as tie
-use Rattle.limits.proofs.question.ask_order.Reads as reads
-use Rattle.limits.proofs.question.ask_order.Lts as lts
-use Rattle.limits.proofs.question.all_ordered.Reads as all-ordered-reads
 
 abbrev Inv-loop : tie.InvT-loop
 Inv-loop lows highs i₀ i = (length lows ≡ length highs) × Scanned (inOrder lows highs) (length lows) i
@@ -18,52 +16,40 @@ Inv-loop lows highs i₀ i = (length lows ≡ length highs) × Scanned (inOrder 
 abbrev μ-loop : tie.MeasureT-loop
 μ-loop lows highs i₀ i = length lows - i
 
--- src/question.rt:33:8
 all-ordered-requires : tie.Need-all-ordered-requires Inv-loop μ-loop
 all-ordered-requires c κs = search needs
 
--- src/question.rt:34:9
 returns : tie.Need-returns Inv-loop μ-loop
 returns c = let a = c .before .before .before .before .args in order-yes (a .lows .now) (a .highs .now) (sym (c .before .all-ordered .ensures) ∙ c .if1 .taken)
 
--- src/question.rt:37:5
 loop-holds : tie.Need-loop-holds Inv-loop μ-loop
 loop-holds c = let a = c .before .before .before .before .args in (c .before .before .before .before .pre, scanned-start (inOrder (a .lows .now) (a .highs .now)) _)
 
--- src/question.rt:38:12
 mul-if2 : tie.Need-mul-if2 Inv-loop μ-loop
 mul-if2 c = search needs
 
--- src/question.rt:38:12
 shared-slice-read-if2 : tie.Need-shared-slice-read-if2 Inv-loop μ-loop
 shared-slice-read-if2 c = search needs
 
--- src/question.rt:38:23
 mul-if2-2 : tie.Need-mul-if2-2 Inv-loop μ-loop
 mul-if2-2 c = search needs
 
--- src/question.rt:38:23
 shared-slice-read-if2-2 : tie.Need-shared-slice-read-if2-2 Inv-loop μ-loop
 shared-slice-read-if2-2 c = search needs
 
--- src/question.rt:39:13
 returns-2 : tie.Need-returns-2 Inv-loop μ-loop
 unfolding question23
 returns-2 c = let a = c .before .before .before .before .before .before .before .before .before .args in scan-no 23 _ (inOrder (a .lows .now) (a .highs .now)) _ (c .before .before .before .loop-test .taken) (lt-leb _ _ (c .if2 .taken)) (c .before .before .before .before .loop .inv .1)
 
--- src/question.rt:44:9
 add-i : tie.Need-add-i Inv-loop μ-loop
 add-i c = search needs
 
--- src/question.rt:37:5
 loop-less : tie.Need-loop-less Inv-loop μ-loop
 loop-less c = search needs
 
--- src/question.rt:37:5
 loop-again : tie.Need-loop-again Inv-loop μ-loop
 loop-again c = let a = c .before .before .before .before .before .before .before .before .before .args in (c .before .before .before .before .loop .inv .0, scanned-next (inOrder (a .lows .now) (a .highs .now)) _ _ (c .before .before .before .loop-test .taken) (le-leb _ _ (c .if2 .left)) (c .before .before .before .before .loop .inv .1))
 
--- src/question.rt:29:1
 returns-3 : tie.Need-returns-3 Inv-loop μ-loop
 unfolding question23
 returns-3 c = let a = c .before .before .before .before .before .before .args in scan-yes 23 _ (inOrder (a .lows .now) (a .highs .now)) _ (c .loop-test .left) (c .before .loop .inv .1)

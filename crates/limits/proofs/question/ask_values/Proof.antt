@@ -1,3 +1,4 @@
+-- `limits::question::ask_values` meets its contract. Assumes nothing.
 use mathlib.Core.Path.{sym, ap, _∙_}
 use Rattle.spec.proofs.QuestionLaws.{first-no, go-on}
 use Rattle.rule.specs.Answers.{answerOf}
@@ -5,48 +6,36 @@ use Rattle.limits.specs.Questions.{checkValues}
 use borrow.Author.Needs.{needs}
 use Rattle.limits.proofs.question.ask_values.Statement.{statement}
 use Rattle.limits.proofs.question.ask_values.Tie as tie
-use Rattle.limits.proofs.question.ask_values.Reads as reads
-use Rattle.limits.proofs.question.ask_values.Lts as lts
-use Rattle.limits.proofs.question.ask_order.Reads as ask-order-reads
-use Rattle.rule.proofs.judging.ask_numbers.Reads as ask-numbers-reads
 
--- src/question.rt:85:9
 ask-numbers-requires : tie.Need-ask-numbers-requires
 ask-numbers-requires c κs = search needs
 
 enum-told : tie.Need-enum-told
 enum-told c = search needs
 
--- src/question.rt:87:9
 enum-told-2 : tie.Need-enum-told-2
 enum-told-2 c = search needs
 
--- src/question.rt:87:9
 returns : tie.Need-returns
 unfolding checkValues
 returns c = first-no _ _ _ _ _ (ap answerOf (c .enum-told2 .given .1)) (c .before .before .ask-numbers .ensures)
 
--- src/question.rt:89:9
 ask-numbers-requires-2 : tie.Need-ask-numbers-requires-2
 ask-numbers-requires-2 c κs = search needs
 
 enum-told-3 : tie.Need-enum-told-3
 enum-told-3 c = search needs
 
--- src/question.rt:91:9
 enum-told-4 : tie.Need-enum-told-4
 enum-told-4 c = search needs
 
--- src/question.rt:91:9
 returns-2 : tie.Need-returns-2
 unfolding checkValues
 returns-2 c = go-on _ _ _ (sym (c .before .before .before .before .before .ask-numbers .ensures) ∙ ap answerOf (c .before .before .before .enum-told .given .1)) (first-no _ _ _ _ _ (ap answerOf (c .enum-told4 .given .1)) (c .before .before .ask-numbers2 .ensures))
 
--- src/question.rt:93:5
 ask-order-requires : tie.Need-ask-order-requires
 ask-order-requires c κs = search needs
 
--- src/question.rt:81:1
 returns-3 : tie.Need-returns-3
 unfolding checkValues
 returns-3 c = go-on _ _ _ (sym (c .before .before .before .before .before .before .ask-numbers .ensures) ∙ ap answerOf (c .before .before .before .before .enum-told .given .1)) (go-on _ _ _ (sym (c .before .before .before .ask-numbers2 .ensures) ∙ ap answerOf (c .before .enum-told3 .given .1)) (c .ask-order .ensures))

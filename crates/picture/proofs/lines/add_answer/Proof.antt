@@ -1,58 +1,44 @@
+-- `picture::lines::add_answer` meets its contract (`LineLaws`). Assumes nothing.
 use native.Mathlib.Omega.{arith}
 use Rattle.print.proofs.AddedLaws.{filled-as, filled-is}
 use Rattle.picture.proofs.LineLaws.{word-false, word-true, word-open}
 use borrow.Author.Needs.{needs}
 use Rattle.picture.proofs.lines.add_answer.Statement.{statement}
 use Rattle.picture.proofs.lines.add_answer.Tie as tie
-use Rattle.picture.proofs.lines.add_answer.Reads as reads
-use Rattle.picture.proofs.lines.add_answer.Lts as lts
-use Rattle.print.proofs.add_bytes.Reads as add-bytes-reads
 
--- src/lines.rt:44:26
 slice-aggregate-add-bytes : tie.Need-slice-aggregate-add-bytes
 slice-aggregate-add-bytes c = search needs
 
--- src/lines.rt:44:9
 add-bytes-requires : tie.Need-add-bytes-requires
 add-bytes-requires c κs = search needs
 
--- src/lines.rt:44:9
 same-length : tie.Need-same-length
 same-length c = search needs
 
--- src/lines.rt:44:9
 returns : tie.Need-returns
 returns c = let a = c .before .before .before .before .before .before .before .args in filled-is (word-false (a .answer) (c .before .before .before .before .before .if1 .taken)) (filled-as 5 (omega arith) (c .before .before .add-bytes .ensures))
 
--- src/lines.rt:47:26
 slice-aggregate-add-bytes-2 : tie.Need-slice-aggregate-add-bytes-2
 slice-aggregate-add-bytes-2 c = search needs
 
--- src/lines.rt:47:9
 add-bytes-requires-2 : tie.Need-add-bytes-requires-2
 add-bytes-requires-2 c κs = search needs
 
--- src/lines.rt:47:9
 same-length-2 : tie.Need-same-length-2
 same-length-2 c = search needs
 
--- src/lines.rt:47:9
 returns-2 : tie.Need-returns-2
 returns-2 c = let a = c .before .before .before .before .before .before .before .before .args in filled-is (word-true (a .answer) (c .before .before .before .before .before .before .if1 .left) (c .before .before .before .before .before .if2 .taken)) (filled-as 5 (omega arith) (c .before .before .add-bytes2 .ensures))
 
--- src/lines.rt:49:15
 slice-aggregate-add-bytes-3 : tie.Need-slice-aggregate-add-bytes-3
 slice-aggregate-add-bytes-3 c = search needs
 
--- src/lines.rt:49:5
 add-bytes-requires-3 : tie.Need-add-bytes-requires-3
 add-bytes-requires-3 c κs = search needs
 
--- src/lines.rt:39:1
 same-length-3 : tie.Need-same-length-3
 same-length-3 c = search needs
 
--- src/lines.rt:39:1
 returns-3 : tie.Need-returns-3
 returns-3 c = let a = c .before .before .before .before .before .before .before .before .args in filled-is (word-open (a .answer) (c .before .before .before .before .before .before .if1 .left) (c .before .before .before .before .before .if2 .left)) (filled-as 5 (omega arith) (c .before .before .add-bytes3 .ensures))
 

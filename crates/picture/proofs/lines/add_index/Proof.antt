@@ -1,3 +1,4 @@
+-- `picture::lines::add_index` meets its contract. Assumes nothing.
 use native.Mathlib.Omega.{arith}
 use Rattle.picture.specs.Lines.{indexText}
 use Rattle.print.proofs.DecimalLaws.{number-filled, number-room}
@@ -5,38 +6,25 @@ use Rattle.print.proofs.AddedLaws.{filled-as, filled-then, filled-room}
 use borrow.Author.Needs.{needs}
 use Rattle.picture.proofs.lines.add_index.Statement.{statement}
 use Rattle.picture.proofs.lines.add_index.Tie as tie
-use Rattle.picture.proofs.lines.add_index.Reads as reads
-use Rattle.picture.proofs.lines.add_index.Lts as lts
-use Rattle.picture.proofs.lines.add_answer.Reads as add-answer-reads
-use Rattle.picture.proofs.lines.add_reason.Reads as add-reason-reads
-use Rattle.print.proofs.add_bytes.Reads as add-bytes-reads
-use Rattle.print.proofs.add_number.Reads as add-number-reads
 
--- src/lines.rt:68:9
 add-number-requires : tie.Need-add-number-requires
 add-number-requires c κs = let s = c .before .before in let small = s .pre .0 in let room = s .pre .1 in number-room 2 (s .args .i) 32 (s .args .at) (s .args .out .now) (omega arith) (omega arith)
 
--- src/lines.rt:69:9
 add-answer-requires : tie.Need-add-answer-requires
 add-answer-requires c κs = let s = c .before .before .before .before .before .before in let small = s .pre .0 in let room = s .pre .1 in let f1 = number-filled 2 (s .args .i) 32 (omega arith) (c .before .before .before .add-number .ensures) in filled-room 5 (omega arith) f1
 
--- src/lines.rt:70:9
 add-reason-requires : tie.Need-add-reason-requires
 add-reason-requires c κs = let s = c .before .before .before .before .before .before .before .before .before .before in let small = s .pre .0 in let room = s .pre .1 in let f1 = number-filled 2 (s .args .i) 32 (omega arith) (c .before .before .before .before .before .before .before .add-number .ensures) in let f2 = filled-then (omega arith) f1 (c .before .before .before .add-answer .ensures) in filled-room 64 (omega arith) f2
 
--- src/lines.rt:71:15
 slice-aggregate-add-bytes : tie.Need-slice-aggregate-add-bytes
 slice-aggregate-add-bytes c = search needs
 
--- src/lines.rt:71:5
 add-bytes-requires : tie.Need-add-bytes-requires
 add-bytes-requires c κs = let s = c .before .before .before .before .before .before .before .before .before .before .before .before .before .before .before in let small = s .pre .0 in let room = s .pre .1 in let f1 = number-filled 2 (s .args .i) 32 (omega arith) (c .before .before .before .before .before .before .before .before .before .before .before .before .add-number .ensures) in let f2 = filled-then (omega arith) f1 (c .before .before .before .before .before .before .before .before .add-answer .ensures) in let f3 = filled-then (omega arith) f2 (c .before .before .before .before .add-reason .ensures) in filled-room 1 (omega arith) f3
 
--- src/lines.rt:64:1
 same-length : tie.Need-same-length
 same-length c = search needs
 
--- src/lines.rt:64:1
 returns : tie.Need-returns
 unfolding indexText
 returns c = let s = c .before .before .before .before .before .before .before .before .before .before .before .before .before .before .before .before .before .before in let small = s .pre .0 in let room = s .pre .1 in let f1 = number-filled 2 (s .args .i) 32 (omega arith) (c .before .before .before .before .before .before .before .before .before .before .before .before .before .before .before .add-number .ensures) in let f2 = filled-then (omega arith) f1 (c .before .before .before .before .before .before .before .before .before .before .before .add-answer .ensures) in let f3 = filled-then (omega arith) f2 (c .before .before .before .before .before .before .before .add-reason .ensures) in filled-then (omega arith) f3 (filled-as 1 (omega arith) (c .before .before .add-bytes .ensures))

@@ -1,3 +1,4 @@
+-- `picture::lines::add_reason` meets its contract (`LineLaws`). Assumes nothing.
 use native.Mathlib.Omega.{arith}
 use Rattle.sets.specs.Sets.{setOf}
 use Rattle.print.proofs.AddedLaws.{added-none, filled-as, filled-is}
@@ -5,23 +6,16 @@ use Rattle.picture.proofs.LineLaws.{reason-none, reason-some}
 use borrow.Author.Needs.{needs}
 use Rattle.picture.proofs.lines.add_reason.Statement.{statement}
 use Rattle.picture.proofs.lines.add_reason.Tie as tie
-use Rattle.picture.proofs.lines.add_reason.Reads as reads
-use Rattle.picture.proofs.lines.add_reason.Lts as lts
-use Rattle.picture.proofs.lines.add_registers.Reads as add-registers-reads
 
--- src/lines.rt:58:9
 returns : tie.Need-returns
 returns c = let a = c .before .before .args in filled-is (reason-none (a .answer) (setOf (a .on)) (c .if1 .taken)) (filled-as 64 (omega arith) (added-none (a .at) (a .out .now)))
 
--- src/lines.rt:60:5
 add-registers-requires : tie.Need-add-registers-requires
 add-registers-requires c κs = search needs
 
--- src/lines.rt:53:1
 same-length : tie.Need-same-length
 same-length c = search needs
 
--- src/lines.rt:53:1
 returns-2 : tie.Need-returns-2
 returns-2 c = let a = c .before .before .before .before .before .before .args in filled-is (reason-some (a .answer) (setOf (a .on)) (c .before .before .before .before .if1 .left)) (c .before .before .add-registers .ensures)
 

@@ -1,3 +1,4 @@
+-- `reasons::nodes::earlier_after` meets its contract (`RegisterLaws`); the sets of the nodes below k are as the definition has them. The measure is what is left to go through. Assumes nothing.
 use Prim.Native.Nat.{suc, _-_, _≤_, _<_}
 use mathlib.Core.Path.{_≡_, refl, sym, ap, subst, _∙_}
 use native.Mathlib.Omega.{arith}
@@ -10,9 +11,6 @@ use Rattle.limits.proofs.MonitorLaws.{few-held}
 use Rattle.reasons.proofs.RegisterLaws.{MovedTo, moved-next, next-few}
 use Rattle.reasons.proofs.nodes.earlier_after.Statement.{statement}
 use Rattle.reasons.proofs.nodes.earlier_after.Tie as tie
-use Rattle.reasons.proofs.nodes.earlier_after.Reads as reads
-use Rattle.reasons.proofs.nodes.earlier_after.Lts as lts
-use Rattle.rule.proofs.node.next_of.Reads as next-of-reads
 
 abbrev Inv-loop : tie.InvT-loop
 Inv-loop rule registers earlier₀ k₀ earlier k = RulePasses rule × (k ≤ length rule) × (length earlier ≡ 64) × MovedTo (tableIn rule) registers earlier k
@@ -20,39 +18,30 @@ Inv-loop rule registers earlier₀ k₀ earlier k = RulePasses rule × (k ≤ le
 abbrev μ-loop : tie.MeasureT-loop
 μ-loop rule registers earlier₀ k₀ earlier k = length rule - k
 
--- src/nodes.rt:113:5
 loop-holds : tie.Need-loop-holds Inv-loop μ-loop
 loop-holds c = (c .before .pre, search needs, refl, λ j l. absurd (omega arith))
 
--- src/nodes.rt:114:32
 next-of-requires : tie.Need-next-of-requires Inv-loop μ-loop
 next-of-requires c κs = search needs
 
--- src/nodes.rt:114:22
 mul-earlier : tie.Need-mul-earlier Inv-loop μ-loop
 mul-earlier c = let l = c .before .before .loop in let rule = c .before .before .before .before .args .rule .now in let few = few-held rule (l .inv .0) in let next = next-few (tableIn rule) (rule-out formIn rule (l .inv .0) .ordered) (l .k) in let e = c .next-of .ensures in omega arith
 
--- src/nodes.rt:114:22
 array-read-earlier : tie.Need-array-read-earlier Inv-loop μ-loop
 array-read-earlier c = let l = c .before .before .loop in let rule = c .before .before .before .before .args .rule .now in let few = few-held rule (l .inv .0) in let next = next-few (tableIn rule) (rule-out formIn rule (l .inv .0) .ordered) (l .k) in let e = c .next-of .ensures in omega arith
 
--- src/nodes.rt:114:9
 mul-earlier-2 : tie.Need-mul-earlier-2 Inv-loop μ-loop
 mul-earlier-2 c = search needs
 
--- src/nodes.rt:114:9
 array-write-earlier : tie.Need-array-write-earlier Inv-loop μ-loop
 array-write-earlier c = let few = few-held (c .before .before .before .before .args .rule .now) (c .before .before .loop .inv .0) in omega arith
 
--- src/nodes.rt:115:9
 add-k : tie.Need-add-k Inv-loop μ-loop
 add-k c = search needs
 
--- src/nodes.rt:113:5
 loop-less : tie.Need-loop-less Inv-loop μ-loop
 loop-less c = search needs
 
--- src/nodes.rt:113:5
 loop-again : tie.Need-loop-again Inv-loop μ-loop
 loop-again c = let a = c .before .before .before .before .args in
     let l = c .before .before .loop in
@@ -67,7 +56,6 @@ loop-again c = let a = c .before .before .before .before .args in
           (moved-next (tableIn rule) (a .t2) (l .earlier) (l .k) inside (l .inv .3))),
     )
 
--- src/nodes.rt:107:1
 returns : tie.Need-returns Inv-loop μ-loop
 returns c = let l = c .before .loop in λ k h. l .inv .3 k (omega arith)
 

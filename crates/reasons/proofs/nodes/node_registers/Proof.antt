@@ -1,3 +1,4 @@
+-- `reasons::nodes::node_registers` meets its contract (`RegisterLaws`). Assumes nothing.
 use Prim.Native.Nat.{_<_}
 use mathlib.Core.Path.{_≡_, sym, ap, ap₂, subst, _∙_}
 use mathlib.Core.Bool.{true}
@@ -13,130 +14,94 @@ use Rattle.reasons.proofs.RegisterLaws.{one-register}
 use borrow.Author.Needs.{needs}
 use Rattle.reasons.proofs.nodes.node_registers.Statement.{statement}
 use Rattle.reasons.proofs.nodes.node_registers.Tie as tie
-use Rattle.reasons.proofs.nodes.node_registers.Reads as reads
-use Rattle.reasons.proofs.nodes.node_registers.Lts as lts
-use Rattle.reasons.proofs.nodes.compared.Reads as compared-reads
-use Rattle.reasons.proofs.nodes.reason_at.Reads as reason-at-reads
-use Rattle.reasons.proofs.reason.both.Reads as both-reads
-use Rattle.reasons.proofs.reason.either.Reads as either-reads
-use Rattle.reasons.proofs.reason.opposite.Reads as opposite-reads
-use Rattle.sets.proofs.with.Reads as with-reads
 
--- src/nodes.rt:60:24
 enum-told : tie.Need-enum-told
 enum-told c = search needs
 
--- src/nodes.rt:62:13
 enum-known-x : tie.Need-enum-known-x
 enum-known-x c = search needs
 
--- src/nodes.rt:64:14
 with-requires : tie.Need-with-requires
 with-requires c κs = search needs
 
--- src/nodes.rt:66:13
 enum-known-x-2 : tie.Need-enum-known-x-2
 enum-known-x-2 c = search needs
 
--- src/nodes.rt:68:14
 with-requires-2 : tie.Need-with-requires-2
 with-requires-2 c κs = search needs
 
--- src/nodes.rt:69:25
 enum-known-x-3 : tie.Need-enum-known-x-3
 enum-known-x-3 c = search needs
 
--- src/nodes.rt:70:17
 reason-at-requires : tie.Need-reason-at-requires
 reason-at-requires c κs = subst NodeSmall (ap nodeRead (c .before .x3 .given .1)) (c .before .before .before .pre .0) .0
 
--- src/nodes.rt:71:17
 reason-at-requires-2 : tie.Need-reason-at-requires-2
 reason-at-requires-2 c κs = subst NodeSmall (ap nodeRead (c .before .before .x3 .given .1)) (c .before .before .before .before .pre .0) .1
 
--- src/nodes.rt:72:28
 opposite-requires : tie.Need-opposite-requires
 opposite-requires c κs = search needs
 
--- src/nodes.rt:72:17
 either-requires : tie.Need-either-requires
 either-requires c κs = search needs
 
--- src/nodes.rt:75:23
 enum-known-x-4 : tie.Need-enum-known-x-4
 enum-known-x-4 c = search needs
 
--- src/nodes.rt:76:17
 reason-at-requires-3 : tie.Need-reason-at-requires-3
 reason-at-requires-3 c κs = subst NodeSmall (ap nodeRead (c .before .x4 .given .1)) (c .before .before .before .pre .0) .0
 
--- src/nodes.rt:77:17
 reason-at-requires-4 : tie.Need-reason-at-requires-4
 reason-at-requires-4 c κs = subst NodeSmall (ap nodeRead (c .before .before .x4 .given .1)) (c .before .before .before .before .pre .0) .1
 
--- src/nodes.rt:78:17
 reason-at-requires-5 : tie.Need-reason-at-requires-5
 reason-at-requires-5 c κs = search needs
 
--- src/nodes.rt:79:31
 both-requires : tie.Need-both-requires
 both-requires c κs = search needs
 
--- src/nodes.rt:79:17
 either-requires-2 : tie.Need-either-requires-2
 either-requires-2 c κs = search needs
 
--- src/nodes.rt:82:43
 enum-told-2 : tie.Need-enum-told-2
 enum-told-2 c = search needs
 
--- src/nodes.rt:82:43
 mul-result : tie.Need-mul-result
 mul-result c = search needs
 
--- src/nodes.rt:82:43
 element-copy-out-result : tie.Need-element-copy-out-result
 element-copy-out-result c = search needs
 
--- src/nodes.rt:83:32
 enum-known-x-5 : tie.Need-enum-known-x-5
 enum-known-x-5 c = search needs
 
--- src/nodes.rt:83:53
 compared-requires : tie.Need-compared-requires
 compared-requires c κs = let r = subst NodeSmall (ap nodeRead (c .before .x5 .given .1)) (c .before .before .before .pre .0) .0 in let other : c .before .x5 .given .0 .1 .0 < 16 = ltb-true (c .before .x5 .given .0 .1 .0) 16 (subst (λ y. nodeAllowed y ≡ true) (ap nodeRead (c .before .x5 .given .1)) (c .before .before .before .pre .1)) in (omega (arith, r), omega arith)
 
--- src/nodes.rt:48:1
 returns : tie.Need-returns
 unfolding nodeRegisters
 returns c = let a = c .before .before .args in empty-is ∙ sym (ap (λ y. nodeRegisters (nodeRead y) (a .k) (cansOf (a .values)) (cansOf (a .priors)) (setsIn (a .registers .now)) (setsIn (a .earlier .now))) (c .enum-told .given .1))
 
--- src/nodes.rt:48:1
 returns-2 : tie.Need-returns-2
 unfolding nodeRegisters
 returns-2 c = let a = c .before .before .before .before .args in let r = subst NodeSmall (ap nodeRead (c .before .before .x .given .1)) (c .before .before .before .before .pre .0) .0 in c .with .ensures ∙ one-register _ (omega (arith, r)) ∙ sym (ap (λ y. nodeRegisters (nodeRead y) (a .k) (cansOf (a .values)) (cansOf (a .priors)) (setsIn (a .registers .now)) (setsIn (a .earlier .now))) (c .before .before .x .given .1))
 
--- src/nodes.rt:48:1
 returns-3 : tie.Need-returns-3
 unfolding nodeRegisters
 returns-3 c = let a = c .before .before .before .before .args in let r = subst NodeSmall (ap nodeRead (c .before .before .x2 .given .1)) (c .before .before .before .before .pre .0) .0 in c .with2 .ensures ∙ one-register _ (omega (arith, r)) ∙ sym (ap (λ y. nodeRegisters (nodeRead y) (a .k) (cansOf (a .values)) (cansOf (a .priors)) (setsIn (a .registers .now)) (setsIn (a .earlier .now))) (c .before .before .x2 .given .1))
 
--- src/nodes.rt:48:1
 returns-4 : tie.Need-returns-4
 unfolding nodeRegisters
 returns-4 c = let a = c .before .before .before .before .before .before .before .args in ap (λ y. y .registers) (c .either .ensures ∙ ap₂ Reasons.either (c .before .opposite .ensures ∙ ap Reasons.opposite (c .before .before .before .reason-at .ensures)) (c .before .before .reason-at2 .ensures)) ∙ sym (ap (λ y. nodeRegisters (nodeRead y) (a .k) (cansOf (a .values)) (cansOf (a .priors)) (setsIn (a .registers .now)) (setsIn (a .earlier .now))) (c .before .before .before .before .before .x3 .given .1))
 
--- src/nodes.rt:48:1
 returns-5 : tie.Need-returns-5
 unfolding nodeRegisters
 returns-5 c = let a = c .before .before .before .before .before .before .before .before .args in ap (λ y. y .registers) (c .either2 .ensures ∙ ap₂ Reasons.either (c .before .before .before .reason-at4 .ensures) (c .before .both .ensures ∙ ap₂ Reasons.both (c .before .before .before .before .reason-at3 .ensures) (c .before .before .reason-at5 .ensures))) ∙ sym (ap (λ y. nodeRegisters (nodeRead y) (a .k) (cansOf (a .values)) (cansOf (a .priors)) (setsIn (a .registers .now)) (setsIn (a .earlier .now))) (c .before .before .before .before .before .before .x4 .given .1))
 
--- src/nodes.rt:48:1
 returns-6 : tie.Need-returns-6
 unfolding nodeRegisters
 returns-6 c = let a = c .before .before .before .args in sym (ap (λ y. nodeRegisters (nodeRead y) (a .k) (cansOf (a .values)) (cansOf (a .priors)) (setsIn (a .registers .now)) (setsIn (a .earlier .now))) (c .before .enum-told2 .given .1))
 
--- src/nodes.rt:48:1
 returns-7 : tie.Need-returns-7
 unfolding nodeRegisters
 returns-7 c = let a = c .before .before .before .before .args in c .compared .ensures ∙ sym (ap (λ y. nodeRegisters (nodeRead y) (a .k) (cansOf (a .values)) (cansOf (a .priors)) (setsIn (a .registers .now)) (setsIn (a .earlier .now))) (c .before .before .x5 .given .1))

@@ -1,3 +1,4 @@
+-- `reasons::nodes::registers_at` meets its contract (`RegisterLaws`); the sets of the nodes below k are as the definition has them. The measure is what is left to go through. Assumes nothing.
 use Prim.Native.Nat.{_-_, _≤_, _<_}
 use mathlib.Core.Path.{_≡_, refl, sym, ap, _∙_}
 use native.Mathlib.Omega.{arith}
@@ -14,10 +15,6 @@ use Rattle.reasons.specs.Registers.{nodeRegisters, setsIn}
 use Rattle.reasons.proofs.RegisterLaws.{FilledTo, registers-next}
 use Rattle.reasons.proofs.nodes.registers_at.Statement.{statement}
 use Rattle.reasons.proofs.nodes.registers_at.Tie as tie
-use Rattle.reasons.proofs.nodes.registers_at.Reads as reads
-use Rattle.reasons.proofs.nodes.registers_at.Lts as lts
-use Rattle.reasons.proofs.nodes.node_registers.Reads as node-registers-reads
-use Rattle.rule.proofs.node.read_node.Reads as read-node-reads
 
 abbrev Inv-loop : tie.InvT-loop
 Inv-loop rule values priors earlier registers₀ k₀ registers k = RulePasses rule × (k ≤ length rule) × (length registers ≡ 64) × FilledTo (cansOf values) (cansOf priors) (setsIn earlier) (tableIn rule) registers k
@@ -25,43 +22,33 @@ Inv-loop rule values priors earlier registers₀ k₀ registers k = RulePasses r
 abbrev μ-loop : tie.MeasureT-loop
 μ-loop rule values priors earlier registers₀ k₀ registers k = length rule - k
 
--- src/nodes.rt:99:5
 loop-holds : tie.Need-loop-holds Inv-loop μ-loop
 loop-holds c = (c .before .pre, search needs, refl, λ j l. absurd (omega arith))
 
--- src/nodes.rt:100:49
 mul-read-node : tie.Need-mul-read-node Inv-loop μ-loop
 mul-read-node c = search needs
 
--- src/nodes.rt:100:49
 shared-slice-read-read-node : tie.Need-shared-slice-read-read-node Inv-loop μ-loop
 shared-slice-read-read-node c = search needs
 
--- src/nodes.rt:100:39
 read-node-requires : tie.Need-read-node-requires Inv-loop μ-loop
 read-node-requires c κs = search needs
 
--- src/nodes.rt:100:24
 node-registers-requires : tie.Need-node-registers-requires Inv-loop μ-loop
 node-registers-requires c κs = let l = c .before .before .before .before .before .loop in let rule = c .before .before .before .before .before .before .before .args .rule .now in let few = few-held rule (l .inv .0) in (c .before .before .read-node .ensures .1, ap nodeAllowed (c .before .before .read-node .ensures .0 ∙ sym (node-at rule (l .k))) ∙ rule-out formIn rule (l .inv .0) .named (l .k), omega arith)
 
--- src/nodes.rt:100:9
 mul-registers : tie.Need-mul-registers Inv-loop μ-loop
 mul-registers c = search needs
 
--- src/nodes.rt:100:9
 array-write-registers : tie.Need-array-write-registers Inv-loop μ-loop
 array-write-registers c = let few = few-held (c .before .before .before .before .before .before .before .before .args .rule .now) (c .before .before .before .before .before .before .loop .inv .0) in omega arith
 
--- src/nodes.rt:101:9
 add-k : tie.Need-add-k Inv-loop μ-loop
 add-k c = search needs
 
--- src/nodes.rt:99:5
 loop-less : tie.Need-loop-less Inv-loop μ-loop
 loop-less c = search needs
 
--- src/nodes.rt:99:5
 loop-again : tie.Need-loop-again Inv-loop μ-loop
 loop-again c = let a = c .before .before .before .before .before .before .before .before .args in
     let l = c .before .before .before .before .before .before .loop in
@@ -77,7 +64,6 @@ loop-again c = let a = c .before .before .before .before .before .before .before
       rw add-one (registers-next (cansOf (a .values)) (cansOf (a .priors)) (setsIn (a .t4)) (tableIn rule) (rule-out formIn rule (l .inv .0) .ordered) (l .registers) (l .k) w inside own (l .inv .3)),
     )
 
--- src/nodes.rt:88:1
 returns : tie.Need-returns Inv-loop μ-loop
 returns c = let l = c .before .loop in λ k h. l .inv .3 k (omega arith)
 

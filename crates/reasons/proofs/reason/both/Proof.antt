@@ -1,30 +1,22 @@
+-- `reasons::reason::both` meets its contract. Assumes nothing.
 use mathlib.Core.Path.{ap, ap₂, _∙_}
 use Rattle.intervals.specs.Reasons
 use borrow.Author.Needs.{needs}
 use Rattle.reasons.proofs.reason.both.Statement.{statement}
 use Rattle.reasons.proofs.reason.both.Tie as tie
-use Rattle.reasons.proofs.reason.both.Reads as reads
-use Rattle.reasons.proofs.reason.both.Lts as lts
-use Rattle.reasons.proofs.reason.either.Reads as either-reads
-use Rattle.reasons.proofs.reason.opposite.Reads as opposite-reads
 
--- src/reason.rt:59:21
 opposite-requires : tie.Need-opposite-requires
 opposite-requires c κs = search needs
 
--- src/reason.rt:59:34
 opposite-requires-2 : tie.Need-opposite-requires-2
 opposite-requires-2 c κs = search needs
 
--- src/reason.rt:59:14
 either-requires : tie.Need-either-requires
 either-requires c κs = search needs
 
--- src/reason.rt:59:5
 opposite-requires-3 : tie.Need-opposite-requires-3
 opposite-requires-3 c κs = search needs
 
--- src/reason.rt:56:1
 returns : tie.Need-returns
 returns c = c .opposite3 .ensures ∙ ap Reasons.opposite (c .before .either .ensures ∙ ap₂ Reasons.either (c .before .before .before .opposite .ensures) (c .before .before .opposite2 .ensures))
 

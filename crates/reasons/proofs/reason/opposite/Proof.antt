@@ -1,11 +1,9 @@
+-- `reasons::reason::opposite` meets its contract (`ReasonLaws`). Assumes nothing.
 use Rattle.sets.specs.Sets.{setOf}
 use Rattle.reasons.proofs.ReasonLaws.{opposite-is}
 use Rattle.reasons.proofs.reason.opposite.Statement.{statement}
 use Rattle.reasons.proofs.reason.opposite.Tie as tie
-use Rattle.reasons.proofs.reason.opposite.Reads as reads
-use Rattle.reasons.proofs.reason.opposite.Lts as lts
 
--- src/reason.rt:17:1
 returns : tie.Need-returns
 returns c = let a = c .before .before .args .a in let e = opposite-is (a .yes) (a .no) in λ i. record { truth = e i; registers = setOf (a .registers) }
 
