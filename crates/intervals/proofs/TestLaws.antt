@@ -15,7 +15,7 @@ use native.Mathlib.Decide.{ℕ_discrete}
 use lib.Seq.{get_or-set_same, get_or-set_other}
 use lib.ListN.{length, set, length-set}
 use lib.Dec.{eqb, ltb, leb}
-use borrow.Author.Tests.{ltb-true, ltb-false, leb-true, eqb-true, eqb-false, lt-ltb, le-ltb, le-leb, eq-eqb, ne_eqb, not_true}
+use borrow.Author.Tests.{ltb-true, ltb-false, leb-true, eqb-true, eqb-false, lt-ltb, le-ltb, le-leb, eq-eqb, ne_eqb, not-true}
 use Rattle.spec.specs.Logic.{State, register_of, Test, equal, below, equal_registers, passes}
 use Rattle.spec.proofs.BoolLaws.{clash, and_both, both_and, or_either, or_left, or_right, decided, le_or_lt}
 use Rattle.intervals.specs.Limits.{known, can, test_can, test₃}
@@ -186,7 +186,7 @@ module _ (low high : State) (order : (r : ℕ) → register_of low r ≤ registe
                 ne_eqb (register_of (set low q (register_of high q)) r) (register_of (set low q (register_of high q)) q) (λ d.
                     let y : register_of low q ≡ register_of high q =
                     sym z ∙ sym (get_or-set_other low q r (register_of high q) 0 n) ∙ d ∙ get_or-set_same low q (register_of high q) 0 m in
-                    clash (or_right (eqb r q) _ (both_and (both_and exact (eq-eqb (register_of low q) (register_of high q) y)) alike)) (not_true _ e)),
+                    clash (or_right (eqb r q) _ (both_and (both_and exact (eq-eqb (register_of low q) (register_of high q) y)) alike)) (not-true _ e)),
               )
             ]
       ]
@@ -235,7 +235,7 @@ test_only (equal r c) s true e =
     let l = leb-true (register_of s r) c p in
     let h = leb-true c (register_of s r) q in
     eq-eqb (register_of s r) c (omega arith)
-test_only (equal r c) s false e = ne_eqb (register_of s r) c (λ z. let h = eq-eqb (register_of s r) c z in clash (both_and h h) (not_true _ e))
+test_only (equal r c) s false e = ne_eqb (register_of s r) c (λ z. let h = eq-eqb (register_of s r) c z in clash (both_and h h) (not-true _ e))
 test_only (below r c) s true e = e
 test_only (below r c) s false e = le-ltb (register_of s r) c (leb-true c (register_of s r) e)
 test_only (equal_registers r q) s true e =
@@ -250,7 +250,7 @@ test_only (equal_registers r q) s true e =
 test_only (equal_registers r q) s false e =
     ne_eqb (register_of s r) (register_of s q) (λ z.
     clash (or_right (eqb r q) _ (both_and (both_and (eq-eqb (register_of s r) (register_of s r) refl) (eq-eqb (register_of s q) (register_of s q) refl))
-    (eq-eqb (register_of s r) (register_of s q) z))) (not_true _ e))
+    (eq-eqb (register_of s r) (register_of s q) z))) (not-true _ e))
 
 pub test_known : (a : Test) (s : State) → test₃ a s s ≡ known (passes a s)
 test_known a s = open_one (test_can a s s) (passes a s) (test_can_lem a s s s (λ r h. (le_refl (register_of s r), le_refl (register_of s r)))) (test_only a s)
@@ -275,7 +275,7 @@ module _ (low high low' high' : State) (above : (r : ℕ) → register_of low r 
       let i = above r in
       let j = order r in
       let k = under r in
-      clash (both_and (eq-eqb (register_of low' r) c (omega arith)) (eq-eqb (register_of high' r) c (omega arith))) (not_true _ e))
+      clash (both_and (eq-eqb (register_of low' r) c (omega arith)) (eq-eqb (register_of high' r) c (omega arith))) (not-true _ e))
   test_narrow (below r c) true e =
       let l = ltb-true (register_of low' r) c e in
       let i = above r in
@@ -299,7 +299,7 @@ module _ (low high low' high' : State) (above : (r : ℕ) → register_of low r 
       ]
   test_narrow (equal_registers r q) false e = denied (λ d.
       elim (or_either (eqb r q) (eqb (register_of low r) (register_of high r) && eqb (register_of low q) (register_of high q) && eqb (register_of low r) (register_of low q)) d) [
-        | inl same ↦ clash (or_left (eqb r q) _ same) (not_true _ e)
+        | inl same ↦ clash (or_left (eqb r q) _ same) (not-true _ e)
         | inr exact ↦
             let (x, y) = and_both (eqb (register_of low r) (register_of high r) && eqb (register_of low q) (register_of high q)) (eqb (register_of low r) (register_of low q)) exact in
             let (u, v) = and_both (eqb (register_of low r) (register_of high r)) (eqb (register_of low q) (register_of high q)) x in
@@ -313,7 +313,7 @@ module _ (low high low' high' : State) (above : (r : ℕ) → register_of low r 
             let m = order q in
             let n = under q in
             clash (or_right (eqb r q) _ (both_and (both_and (eq-eqb (register_of low' r) (register_of high' r) (omega arith)) (eq-eqb (register_of low' q) (register_of high' q) (omega arith)))
-            (eq-eqb (register_of low' r) (register_of low' q) (omega arith)))) (not_true _ e)
+            (eq-eqb (register_of low' r) (register_of low' q) (omega arith)))) (not-true _ e)
       ])
 
 -- ---- limits that differ elsewhere

@@ -7,7 +7,7 @@
 use mathlib.Core.Path.{◌≡◌, refl, sym, subst, ap, ap₂, ◌∙◌}
 use mathlib.Core.Logic.{inl, inr}
 use mathlib.Core.Bool.{Bool, true, false, cond}
-use mathlib.Core.List.{List, [], ◌∷◌, ◌++◌, map, map_append}
+use mathlib.Core.List.{List, [], ◌∷◌, ◌++◌, map, map-append}
 use Prim.Native.Nat.{ℕ, zero, suc, ◌+◌, ◌*◌, ◌^◌, ◌≤◌, ◌<◌}
 use native.Mathlib.Nat.{add_assoc, add-mul, zero-mul, le_refl}
 use native.Mathlib.Omega.{arith}
@@ -81,7 +81,7 @@ line_narrow x = ap₂ ◌∷◌ (shl-shr (word_for x.instruction) 32) (facts eve
 pub words_narrow : (ls : Lines) → narrow_script (words_of form64 ls) ≡ words_of form32 ls
 unfolding words_of
 words_narrow [] = refl
-words_narrow (x ∷ ls) = map_append narrow_word (line_words form64 x) (words_of form64 ls) ∙ ap₂ ◌++◌ (line_narrow x) (words_narrow ls)
+words_narrow (x ∷ ls) = map-append narrow_word (line_words form64 x) (words_of form64 ls) ∙ ap₂ ◌++◌ (line_narrow x) (words_narrow ls)
 
 line_widen : (x : Line) → ((f : Fact) (k : ℕ) → x.annotation f k ≡ true → k < 32) → line_words form64 x ≡ widen_script (line_words form32 x)
 unfolding line_words form32 form64
@@ -96,7 +96,7 @@ pub words_widen : (ls : Lines) → Slim 32 ls → words_of form64 ls ≡ widen_s
 unfolding words_of
 words_widen [] few = refl
 words_widen (x ∷ ls) few =
-    ap₂ ◌++◌ (line_widen x (few 0)) (words_widen ls (λ l. few (suc l))) ∙ sym (map_append widen_word (line_words form32 x) (words_of form32 ls))
+    ap₂ ◌++◌ (line_widen x (few 0)) (words_widen ls (λ l. few (suc l))) ∙ sym (map-append widen_word (line_words form32 x) (words_of form32 ls))
 
 -- an output that holds moved words is the moved output
 pub output_widen : (words wide_words out : List ℕ) (a : Answer ℕ) → ((n : ℕ) → a ≡ passed n → wide_words ≡ widen_script words)
@@ -104,7 +104,7 @@ pub output_widen : (words wide_words out : List ℕ) (a : Answer ℕ) → ((n : 
 output_widen words wide_words out (passed n) h =
     ap (λ ws. ws ++ drop (length ws) (widen_script out)) (h n refl)
     ∙ ap (λ i. widen_script words ++ drop i (widen_script out)) (length-map words widen_word)
-    ∙ ap (◌++◌ (widen_script words)) (drop_widen (length words) out) ∙ sym (map_append widen_word words (drop (length words) out))
+    ∙ ap (◌++◌ (widen_script words)) (drop_widen (length words) out) ∙ sym (map-append widen_word words (drop (length words) out))
 output_widen words wide_words out (refused q i) h = refl
 
 -- ---- weaving

@@ -8,7 +8,7 @@ use mathlib.Core.Bool.{true, false, not, ◌&&◌}
 use mathlib.Core.List.{List, [], ◌∷◌}
 use Prim.Native.Nat.{ℕ}
 use lib.Dec.{eqb}
-use borrow.Author.Tests.{eq-eqb, not_true}
+use borrow.Author.Tests.{eq-eqb, not-true}
 use types.Run.{OneOf}
 use denote.Enum.Declared.{tag_of}
 use Rattle.spec.specs.Questions.{all}
@@ -20,7 +20,7 @@ use Rattle.rule.specs.Nodes.{node_read, is_implies}
 use Rattle.rule.specs.contracts.node.Node.{the_type}
 
 unequal : (n k : ℕ) (ks : List ℕ) → all (λ j. not (eqb n j)) (k ∷ ks) ≡ true → eqb n k ≡ false
-unequal n k ks e = not_true (eqb n k) (and_both (not (eqb n k)) (all (λ j. not (eqb n j)) ks) e).0
+unequal n k ks e = not-true (eqb n k) (and_both (not (eqb n k)) (all (λ j. not (eqb n j)) ks) e).0
 
 -- a number unequal to each of these is none of them
 never : (n : ℕ) (ks : List ℕ) → all (λ k. not (eqb n k)) ks ≡ true → OneOf ks n → ⊥

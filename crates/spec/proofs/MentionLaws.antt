@@ -17,7 +17,7 @@ use native.Mathlib.Nat.{le_refl}
 use native.Mathlib.Omega.{arith}
 use lib.ListN.{length}
 use lib.Dec.{eqb, ltb, leb}
-use borrow.Author.Tests.{ltb-true, lt-ltb, leb-true, leb-false, eq-eqb, ne_eqb, not_true}
+use borrow.Author.Tests.{ltb-true, lt-ltb, leb-true, leb-false, eq-eqb, ne_eqb, not-true}
 use Rattle.spec.specs.Questions.{all, count, sum}
 use Rattle.spec.specs.Rule.{Node, false_node, test_node, implies_node, since_node, weak_previous_node, Table, node_at, is_past, operands, mentions, is_shared, has_work, next_from, next_of}
 use Rattle.spec.proofs.BoolLaws.{clash, and_both, both_and, decided, or_either, or_left, or_right, le_or_lt}
@@ -171,7 +171,7 @@ module _ (t : Table) where
 
   pub shared_not_past : (k : ℕ) → is_shared t k ≡ true → is_past (node_at t k) ≡ false
   unfolding is_shared
-  shared_not_past k s = not_true (is_past (node_at t k)) (and_both (not (is_past (node_at t k))) _ s).0
+  shared_not_past k s = not-true (is_past (node_at t k)) (and_both (not (is_past (node_at t k))) _ s).0
 
   pub past_unshared : (k : ℕ) → is_past (node_at t k) ≡ true → is_shared t k ≡ false
   unfolding is_shared

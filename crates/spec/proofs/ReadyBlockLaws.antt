@@ -14,7 +14,7 @@ use native.Mathlib.Omega.{arith}
 use native.Mathlib.Nat.{le_refl}
 use lib.ListN.{length, get_or-eq_default}
 use lib.Dec.{ltb}
-use borrow.Author.Tests.{not_true}
+use borrow.Author.Tests.{not-true}
 use Rattle.spec.specs.Questions.{all}
 use Rattle.spec.specs.Rule.{Form, form32, form64, Node, false_node, test_node, implies_node, since_node, weak_previous_node, Table, table_of, node_at, is_past, is_shared, operands}
 use Rattle.spec.specs.Script.{Instruction, halt, write, branch, goto, present, set_work, keep, Code, is_present, instruction_at, bare_code}
@@ -121,7 +121,7 @@ quiet_at ls [] p q s f a b = absurd (omega arith)
 quiet_at ls (x ∷ xs) p q s f a b =
     let (u, v) = and_both (not (is_write x.instruction)) _ f in
     elim (le_or_lt q p) [
-      | inl h ↦ let z : q ≡ p = omega arith in rw (z, s.1) (not_true _ u)
+      | inl h ↦ let z : q ≡ p = omega arith in rw (z, s.1) (not-true _ u)
       | inr h ↦ quiet_at ls xs (suc p) q s.2 v (omega arith) (omega arith)
     ]
 

@@ -1,6 +1,6 @@
 -- `guard::guard_step` meets its contract (`StateLaws`). Assumes nothing.
 use mathlib.Core.Path.{sym, ap, ◌∙◌}
-use borrow.Author.Tests.{not_true, not-false}
+use borrow.Author.Tests.{not-true, not-false}
 use Rattle.spec.specs.Rule.{form32}
 use Rattle.spec.specs.Ready.{state_step_of}
 use Rattle.numbers.proofs.StateLaws.{step_short, step_large, step_made}
@@ -22,7 +22,7 @@ returns-2 : tie.Need-returns-2
 returns-2 c =
     let a = c.before.before.before.before.before.before.before.before.before.args in
     step_large form32 a.rule.now a.script.now a.inputs.now a.state.now a.history.now c.before.before.before.if1.false
-    (sym c.before.state-fits.ensures ∙ not_true _ c.if2.true)
+    (sym c.before.state-fits.ensures ∙ not-true _ c.if2.true)
 
 read-machine-requires : tie.Need-read-machine-requires
 read-machine-requires c κs = (c.before.before.before.before.if1.false, sym c.before.before.state-fits.ensures ∙ not-false _ c.before.if2.false)

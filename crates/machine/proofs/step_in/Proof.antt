@@ -2,7 +2,7 @@
 -- readiness (`StepLaws`, `ReadyLaws`). Assumes nothing.
 use mathlib.Core.Path.{refl, sym, ap, ◌∙◌}
 use native.Mathlib.Omega.{arith}
-use borrow.Author.Tests.{not_true, not-false}
+use borrow.Author.Tests.{not-true, not-false}
 use Rattle.spec.specs.Machine.{acting}
 use Rattle.rule.specs.Nodes.{form_by, stored_in}
 use Rattle.rule.proofs.EitherLaws.{size_most}
@@ -21,7 +21,7 @@ returns : tie.Need-returns
 returns c =
     let a = c.before.before.before.before.before.before.before.before.args in
     state_not a.is_wide (stored_in a.is_wide a.rule.now a.rule-wide.now) a.script.now a.script-wide.now a.inputs.now
-    (state_of a.m a.history.now) (sym c.before.can-run.ensures ∙ not_true _ c.if1.true)
+    (state_of a.m a.history.now) (sym c.before.can-run.ensures ∙ not-true _ c.if1.true)
 
 line-word-requires : tie.Need-line-word-requires
 line-word-requires c κs =

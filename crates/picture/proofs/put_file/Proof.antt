@@ -1,6 +1,6 @@
 -- `picture::put_file` meets its contract (`PictureLaws`). Assumes nothing.
 use mathlib.Core.Path.{sym, ap, ◌∙◌}
-use borrow.Author.Tests.{not_true, not-false}
+use borrow.Author.Tests.{not-true, not-false}
 use Rattle.rule.specs.Answers.{answer_of}
 use Rattle.print.proofs.AddedLaws.{added_as}
 use Rattle.picture.proofs.PictureLaws.{file_no, file_few, file_judged}
@@ -39,7 +39,7 @@ same-length-2 : tie.Need-same-length-2
 same-length-2 c = search rules
 
 returns-2 : tie.Need-returns-2
-returns-2 c = let a = c.before.before.before.before.before.before.before.before.before.before.before.before.before.args in added_as _ _ 0 _ _ _ (file_few a.rule.now a.bytes.now a.at (sym c.before.before.before.before.before.before.before.before.before.check-rule.ensures ∙ ap answer_of c.before.before.before.before.before.before.before.enum_told.given.1) (sym c.before.before.before.before.before.before.is_whole.ensures ∙ not_true _ c.before.before.before.before.before.if1.true)) c.before.before.add-bytes.ensures
+returns-2 c = let a = c.before.before.before.before.before.before.before.before.before.before.before.before.before.args in added_as _ _ 0 _ _ _ (file_few a.rule.now a.bytes.now a.at (sym c.before.before.before.before.before.before.before.before.before.check-rule.ensures ∙ ap answer_of c.before.before.before.before.before.before.before.enum_told.given.1) (sym c.before.before.before.before.before.before.is_whole.ensures ∙ not-true _ c.before.before.before.before.before.if1.true)) c.before.before.add-bytes.ensures
 
 put-indices-requires : tie.Need-put-indices-requires
 put-indices-requires c κs = let s = c.before.before.before.before.before.before.before.before.before in ((sym c.before.before.before.before.before.check-rule.ensures ∙ ap answer_of c.before.before.before.enum_told.given.1), s.requires.0, sym c.before.before.is_whole.ensures ∙ not-false _ c.before.if1.false, s.requires.1)

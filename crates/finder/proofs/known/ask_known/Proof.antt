@@ -6,7 +6,7 @@ use mathlib.Core.Path.{sym, ◌∙◌}
 use mathlib.Core.Bool.{Bool}
 use mathlib.Core.List.{List}
 use lib.ListN.{length}
-use borrow.Author.Tests.{not_true, not-false}
+use borrow.Author.Tests.{not-true, not-false}
 use Rattle.spec.specs.Check.{line_at, present_known}
 use Rattle.largest.specs.Largest.{found_lines, question19}
 use Rattle.spec.proofs.QuestionLaws.{Scanned, scanned_start, scanned_next, scan_no, scan_yes}
@@ -35,7 +35,7 @@ returns c =
     let a = s.args in
     let l = c.before.before.before.loop in
     scan_no 19 _ (ok a.rule.now a.code.now) l.l c.before.before.loop-test.true
-    (sym c.before.known_at_lem.ensures ∙ not_true _ c.if1.true) l.invariant
+    (sym c.before.known_at_lem.ensures ∙ not-true _ c.if1.true) l.invariant
 
 add-l : tie.Need-overflow-add-l invariant_loop decreases_loop
 add-l c = search rules

@@ -1,7 +1,7 @@
 -- `machine::ready::renewal_of` meets its contract, by opcode (`ReadyLaws`). Assumes nothing.
 use mathlib.Core.Path.{sym, ap, ap₂, ◌∙◌}
 use mathlib.Core.Bool.{Bool, cond, ◌&&◌}
-use borrow.Author.Tests.{not_true, not-false}
+use borrow.Author.Tests.{not-true, not-false}
 use Rattle.spec.specs.Ready.{ready_move}
 use Rattle.script.specs.Lines.{fields_in, instruction_in}
 use Rattle.machine.specs.Machines.{readiness_of}
@@ -14,7 +14,7 @@ returns : tie.Need-returns
 returns c =
     let a = c.before.args in
     let x = readiness_of a.before in
-    λ t s. ap (λ (b : Bool). cond b (ready_move t (instruction_in a.x) s x) x) (sym (not_true a.done c.if1.true))
+    λ t s. ap (λ (b : Bool). cond b (ready_move t (instruction_in a.x) s x) x) (sym (not-true a.done c.if1.true))
 
 returns-2 : tie.Need-returns-2
 returns-2 c =

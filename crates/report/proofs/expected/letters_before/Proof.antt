@@ -1,7 +1,7 @@
 -- `report::expected::letters_before` meets its contract: n letters stand just before the place. Assumes nothing.
 use mathlib.Core.Path.{◌≡◌, sym, ◌∙◌}
 use Prim.Native.Nat.{◌+◌, ◌-◌, ◌≤◌}
-use borrow.Author.Tests.{not_true, not-false}
+use borrow.Author.Tests.{not-true, not-false}
 use borrow.Author.Rules.{rules}
 use Rattle.report.specs.Compiled.{letters_before}
 use Rattle.report.proofs.BegunLaws.{letters_start, letters_next, letters_stop, letters_out, letters_end}
@@ -41,7 +41,7 @@ returns-2 c =
     let l = c.before.before.before.before.before.loop in (
       l.invariant.0,
       letters_stop s.args.text.now s.args.place l.n c.before.before.before.before.loop-test.true l.invariant.1 (sym
-          c.before.is-letter.ensures ∙ not_true c.before.is-letter.result c.if2.true),
+          c.before.is-letter.ensures ∙ not-true c.before.is-letter.result c.if2.true),
     )
 
 add-n : tie.Need-overflow-add-n invariant_loop decreases_loop

@@ -4,7 +4,7 @@ use Prim.Native.Nat.{◌-◌, ◌*◌, ◌+◌}
 use mathlib.Core.Path.{◌≡◌, refl, sym, ap, ap₂, ◌∙◌}
 use native.Mathlib.Omega.{arith}
 use lib.ListN.{take, drop, length-take, length-drop}
-use borrow.Author.Tests.{not_true, not-false}
+use borrow.Author.Tests.{not-true, not-false}
 use Rattle.spec.specs.Monitor.{moment_of, last_true}
 use Rattle.sets.specs.Sets.{set_of}
 use Rattle.rule.specs.Nodes.{table_in}
@@ -61,7 +61,7 @@ returns c =
     let moment = c.before.before.evaluate.ensures in
     let v : c.before.has-node.result ≡ last_true t (moment_of t s (set_of l.priors)) =
     c.before.has-node.ensures ∙ ap₂ (λ m k. m.values k) moment c.before.before.before.before.before.before.last-node.ensures.0 in
-    watch_stop t h (set_of a.first) l.i c.before.before.before.before.loop-test.true (set_of l.priors) l.invariant s e (sym v ∙ not_true _ c.if1.true) _ (ap (λ m. m.priors) moment)
+    watch_stop t h (set_of a.first) l.i c.before.before.before.before.loop-test.true (set_of l.priors) l.invariant s e (sym v ∙ not-true _ c.if1.true) _ (ap (λ m. m.priors) moment)
 
 add-i : tie.Need-overflow-add-i invariant_loop decreases_loop
 add-i c = search rules

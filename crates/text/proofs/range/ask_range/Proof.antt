@@ -3,7 +3,7 @@
 use mathlib.Core.Path.{sym, ◌∙◌}
 use Prim.Native.Nat.{◌-◌}
 use lib.ListN.{length}
-use borrow.Author.Tests.{not_true, not-false}
+use borrow.Author.Tests.{not-true, not-false}
 use borrow.Author.Rules.{rules}
 use Rattle.text.proofs.InRangeLaws.{Ranging, ranging_start, ranging_next, ranging_stop, ranging_end}
 use Rattle.text.proofs.range.ask_range.Statement.{statement}
@@ -23,7 +23,7 @@ in-range-requires c κs = (c.loop-test.true, c.before.loop.invariant.last)
 
 returns : tie.Need-returns invariant_loop decreases_loop
 returns c =
-    ranging_stop _ _ _ c.before.before.before.loop.invariant c.before.before.loop-test.true (sym c.before.in-range.ensures ∙ not_true
+    ranging_stop _ _ _ c.before.before.before.loop.invariant c.before.before.loop-test.true (sym c.before.in-range.ensures ∙ not-true
     c.before.in-range.result c.if1.true)
 
 shared-slice-read-before : tie.Need-shared-slice-read-before invariant_loop decreases_loop

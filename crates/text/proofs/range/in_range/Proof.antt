@@ -1,7 +1,7 @@
 -- `text::range::in_range` meets its contract. Assumes nothing.
 use mathlib.Core.Path.{sym, ap, ap₂, ◌∙◌}
 use lib.Dec.{leb}
-use borrow.Author.Tests.{not_true, not-false}
+use borrow.Author.Tests.{not-true, not-false}
 use borrow.Author.Rules.{rules}
 use Rattle.grammar.specs.Texting.{most_after}
 use Rattle.grammar.specs.Grammar.{is_digit}
@@ -18,7 +18,7 @@ is-digit-requires c κs = search rules
 returns : tie.Need-returns
 returns c =
     let s = c.before.before.before.before in
-    in_range_other s.args.text.now s.args.at (sym c.before.is_digit.ensures ∙ not_true c.before.is_digit.result c.if1.true)
+    in_range_other s.args.text.now s.args.at (sym c.before.is_digit.ensures ∙ not-true c.before.is_digit.result c.if1.true)
 
 is-digit-requires-2 : tie.Need-is-digit-requires-2
 is-digit-requires-2 c κs = search rules

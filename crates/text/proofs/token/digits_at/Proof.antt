@@ -5,7 +5,7 @@ use Prim.Native.Nat.{◌-◌, ◌+◌}
 use native.Mathlib.Omega.{arith}
 use lib.ListN.{length, get_or}
 use borrow.Author.Rules.{rules}
-use borrow.Author.Tests.{not_true, not-false}
+use borrow.Author.Tests.{not-true, not-false}
 use Rattle.text.proofs.DigitLaws.{digit_low, digit_high, cap_small, Passed, passed_start, passed_next, passed_stop, passed_end}
 use Rattle.text.proofs.token.digits_at.Statement.{statement}
 use Rattle.text.proofs.token.digits_at.Tie as tie
@@ -27,7 +27,7 @@ is-digit-requires c κs = search rules
 
 returns : tie.Need-returns invariant_loop decreases_loop
 returns c =
-    let x = passed_stop _ _ _ _ c.before.before.before.before.loop.invariant c.before.before.before.loop-test.true (sym c.before.is_digit.ensures ∙ not_true c.before.is_digit.result c.if1.true) in
+    let x = passed_stop _ _ _ _ c.before.before.before.before.loop.invariant c.before.before.before.loop-test.true (sym c.before.is_digit.ensures ∙ not-true c.before.is_digit.result c.if1.true) in
     (x.value_is_lem, x.next_is)
 
 mul-cap : tie.Need-overflow-mul-cap invariant_loop decreases_loop
