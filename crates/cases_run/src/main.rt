@@ -6,6 +6,8 @@
 // and 26 put two scripts together, in the one form and in the other; half of the words are the first's. Kinds 27 and 28 are those of crate
 // station_requests, 29 and 30 of limit_requests, 31 is one of `texts`'. A 0 in place of a kind is skipped. A count out of the buffers' range
 // ends a block.
+#![tactic(auto)]
+
 ghost use Rattle.std.specs.Prelude.{◌<◌, ◌≤◌, ◌+◌};
 
 use crate::finding::{answer_finding, answer_finding64};

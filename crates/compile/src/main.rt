@@ -1,4 +1,6 @@
 // Compiles the rule typed as text on standard input. What it prints is the answer of `report::compile`.
+#![tactic(auto)]
+
 use libc::STDOUT_FILENO;
 
 // Of a longer input the first 65,536 bytes are read: more than a text may have.

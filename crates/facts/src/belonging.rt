@@ -12,7 +12,7 @@ use rule::shared::used_twice;
 use sets::{union, with, with_if};
 
 // The rule's nodes, and which of them are since and weak previous.
-#[derive(Drop)]
+#[derive(Clone, Copy)]
 pub struct Groups {
     pub nodes: u64,
     pub sinces: u64,

@@ -1,4 +1,6 @@
 // The facts noted at a line, as seven sets of nodes.
+#![tactic(auto)]
+
 ghost use Rattle.std.specs.Prelude.{◌≡◌, ◌<◌, true, false};
 ghost use Rattle.spec.specs.Facts.{value_is, prior_is, ◌∪◌, one, provided, among_below};
 ghost use Rattle.sets.specs.Sets.{capacity, set_of};
@@ -11,7 +13,7 @@ pub mod line;
 
 // The nodes that are true now (t) and false now (f), whose prior is true (a) and false (b), whose kept bit is the prior (m), whose
 // work bit is the next prior (w) and the prior (c).
-#[derive(Drop)]
+#[derive(Clone, Copy)]
 pub struct Facts {
     pub t: u64,
     pub f: u64,

@@ -1,4 +1,6 @@
 // Facts found for bare hands: the largest facts at every line that the checker accepts.
+#![tactic(auto)]
+
 ghost use Rattle.std.specs.Prelude.{◌≡◌};
 ghost use Rattle.spec.specs.Rule.{form32, form64};
 ghost use Rattle.largest.specs.Largest.{check_instructions, found_answer, found_output};

@@ -3,6 +3,8 @@
 // stations.
 // Each function hands back 0, or the number of the question that refused, or 99 where the lent words are fewer than it needs, and
 // writes its other numbers into the first of the lent words; later words stay. With 99 nothing is written anywhere.
+#![tactic(auto)]
+
 ghost use Rattle.std.specs.Prelude.{◌≡◌, cond, [], ◌++◌, length, drop};
 ghost use Rattle.spec.specs.Rule.{form32, check_rule};
 ghost use Rattle.spec.specs.Judging.{judging};

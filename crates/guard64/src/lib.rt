@@ -1,6 +1,8 @@
 // The guard over the second stored form, for C and Rust to call: a rule has up to 64 nodes, a 64-bit word each, and an annotated script and an
 // output have 64-bit words; bare scripts and instructions keep 32-bit words. Each function is otherwise that of crate guard without the 64 in
 // its name. moving.rt has the moves between the forms. It is a library of its own, so that in either the form is known when it is compiled.
+#![tactic(auto)]
+
 ghost use Rattle.std.specs.Prelude.{◌≡◌, cond, [], ◌++◌, length, drop};
 ghost use Rattle.spec.specs.Rule.{form64, check_rule};
 ghost use Rattle.spec.specs.Judging.{judging};

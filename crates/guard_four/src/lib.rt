@@ -1,6 +1,8 @@
 // Four stations with one allowance, for C and Rust to call (2026-10): the function over document 01's stored form; crate guard_four64 has
 // the one over the second. It is a library of its own, so that the functions of crate guard keep the code that they have: a step with a
 // second caller would no longer be a part of `guard_step`.
+#![tactic(auto)]
+
 ghost use Rattle.spec.specs.Rule.{form32};
 ghost use Rattle.turns.specs.Stations.{four};
 ghost use Rattle.numbers.specs.Stations.{ran_over, StationsNoted};

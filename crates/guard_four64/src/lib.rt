@@ -1,4 +1,6 @@
 // Four stations with one allowance, for C and Rust to call (2026-10), over the second stored form: what is said of crate guard_four holds here.
+#![tactic(auto)]
+
 ghost use Rattle.spec.specs.Rule.{form64};
 ghost use Rattle.turns.specs.Stations.{four};
 ghost use Rattle.numbers.specs.Stations.{ran_over, StationsNoted};

@@ -1,4 +1,6 @@
 // Judges the file of limits on standard input. What it prints is the answer of `picture::judge_file`.
+#![tactic(auto)]
+
 use libc::STDOUT_FILENO;
 
 // The largest file has 34 words and 1,000 indices of 64 bytes; later bytes are ignored.

@@ -1,4 +1,6 @@
 // Where woven lines go: how many lines a node's decision and a block take, and where each bare line starts.
+#![tactic(auto)]
+
 ghost use Rattle.std.specs.Prelude.{◌≡◌, cond, ◌+◌, ◌*◌, ◌≤◌, ◌<◌, length, get_or};
 ghost use Rattle.spec.specs.Rule.{Table, node_at, is_past};
 ghost use Rattle.spec.specs.Script.{instruction_read, is_present, word_for, bare_code, most_lines};

@@ -1,5 +1,7 @@
 // Requests of kinds 29 and 30: a history known within limits, judged in the old form and in the second. Kind, node count, nodes, low count, lows,
 // high count, highs, the length of the lent output. A lent output has 9 everywhere, which is no answer.
+#![tactic(auto)]
+
 ghost use Rattle.std.specs.Prelude.{◌<◌, ◌≤◌};
 
 use limits::{judge, judge64};

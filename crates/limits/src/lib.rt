@@ -1,5 +1,7 @@
 // Request 2026-11: a rule judged on a history whose registers are known only within limits. At each index it is true, false or open. A function
 // whose name ends in 64 takes a rule of the second form, one without the ending a rule of the old form.
+#![tactic(auto)]
+
 ghost use Rattle.std.specs.Prelude.{◌≡◌, ℕ};
 ghost use Rattle.spec.specs.Questions.{passed};
 ghost use Rattle.spec.specs.Rule.{form32, form64};

@@ -12,21 +12,21 @@ use rule::node::{Node, read_node};
 use sets::{difference, has_node, with_node_if};
 
 // Whether something can be true, and whether it can be false: what is open can be both.
-#[derive(Drop)]
+#[derive(Clone, Copy)]
 pub struct Can {
     pub yes: bool,
     pub no: bool,
 }
 
 // The same of all nodes: those that can be true, and those that can be false.
-#[derive(Drop)]
+#[derive(Clone, Copy)]
 pub struct Cans {
     pub yes: u64,
     pub no: u64,
 }
 
 // The nodes at an index, and their next priors.
-#[derive(Drop)]
+#[derive(Clone, Copy)]
 pub struct Moment {
     pub values: Cans,
     pub priors: Cans,

@@ -1,4 +1,6 @@
 // Lists the woven script of the rule and the bare script on standard input. What it prints is the answer of `render::listing::list`.
+#![tactic(auto)]
+
 use libc::STDOUT_FILENO;
 
 // The largest input has 1 + 32 + 1 + 1,024 words; later bytes are ignored.

@@ -1,5 +1,7 @@
 // Lists the inputs on standard input, one after another. An input stands after a word of 32 bits, high byte first, that is one more than how
 // many bytes it has, and fills whole words; a 0 in place of that word is skipped.
+#![tactic(auto)]
+
 ghost use Rattle.std.specs.Prelude.{◌<◌};
 
 use libc::STDOUT_FILENO;

@@ -18,7 +18,7 @@ use script::instruction::Instruction;
 use sets::has;
 
 // No instruction but a present changes the priors: kept bits are the script's, these are not.
-#[derive(Drop)]
+#[derive(Clone, Copy)]
 pub struct Readiness {
     // Would a presentation made now keep the rule?
     pub ready: bool,
@@ -30,7 +30,7 @@ pub struct Readiness {
 }
 
 // From what an instruction has it worked out anew.
-#[derive(Drop)]
+#[derive(Clone, Copy)]
 pub(crate) enum Renewal {
     Unchanged,
     // From these priors.

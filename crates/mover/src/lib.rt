@@ -1,5 +1,7 @@
 // Rules and annotated scripts moved from the old stored form to the second, and back. Each move puts its questions first, of the form moved
 // from; too little output is 13, last, and a refusal changes nothing.
+#![tactic(auto)]
+
 ghost use Rattle.std.specs.Prelude.{◌≡◌, not, List, map, ◌≤◌, length};
 ghost use Rattle.moves.specs.Moves.{check_script_up, rule_up, rule_back, script_up, script_back, rule_up_output, rule_back_output, script_up_output, script_back_output};
 ghost use Rattle.rule.specs.Answers.{answer_of, counted_of};

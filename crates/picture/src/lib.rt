@@ -1,4 +1,6 @@
 // A file of limits judged, as text for people: from the bytes of the file to the bytes of the text (request 2026-11).
+#![tactic(auto)]
+
 ghost use Rattle.std.specs.Prelude.{◌≡◌, true, ◌++◌, ◌≤◌, length, drop};
 ghost use Rattle.spec.specs.Questions.{passed};
 ghost use Rattle.spec.specs.Rule.{form32, check_rule};

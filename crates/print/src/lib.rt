@@ -1,4 +1,6 @@
 // Bytes and numbers, written one after another into a lent output.
+#![tactic(auto)]
+
 ghost use Rattle.std.specs.Prelude.{◌≡◌, ◌+◌, ◌≤◌, ◌<◌, length};
 ghost use Rattle.print.specs.Decimal.{digit, decimal, number, refused_text};
 ghost use Rattle.print.specs.Written.{Added, Filled};

@@ -1,4 +1,6 @@
 // The registers that the answers of judging within limits depend on, for people who ask why (request 2026-11).
+#![tactic(auto)]
+
 ghost use Rattle.std.specs.Prelude.{◌≡◌};
 ghost use Rattle.spec.specs.Questions.{passed};
 ghost use Rattle.rule.specs.Nodes.{form_in};

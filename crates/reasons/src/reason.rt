@@ -7,7 +7,7 @@ ghost use Rattle.reasons.specs.Registers.{reason_of};
 use sets::union;
 
 // Whether it can be true and whether it can be false, and the registers: register r is bit 63 - r.
-#[derive(Drop)]
+#[derive(Clone, Copy)]
 pub struct Reason {
     pub yes: bool,
     pub no: bool,

@@ -1,4 +1,6 @@
 // What the compile program prints: from the bytes of its input to the bytes of the text.
+#![tactic(auto)]
+
 ghost use Rattle.std.specs.Prelude.{◌≡◌, ◌++◌, ◌*◌, ◌+◌, ◌≤◌, ◌<◌, length, take, drop};
 ghost use Rattle.spec.specs.Rule.{form32};
 ghost use Rattle.grammar.specs.Texting.{texting};

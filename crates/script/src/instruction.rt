@@ -8,7 +8,7 @@ ghost use Rattle.script.specs.Lines.{fields_in, FieldsSmall, word_at};
 use rule::stored::word_at;
 
 // An instruction. `c` is a constant, or names a register or a node.
-#[derive(Drop)]
+#[derive(Clone, Copy)]
 pub struct Instruction {
     pub opcode: u32,
     pub r: usize,

@@ -1,6 +1,8 @@
 // Requests of kinds 27 and 28: four stations with one allowance, of the old form or the second. Kind, how many states are lent, the budget and
 // the allowance as two words each; then of each station: node count, nodes, word count, words, input count, inputs, the length of the lent
 // history. A lent history has 60,000 everywhere, which no register can hold.
+#![tactic(auto)]
+
 ghost use Rattle.std.specs.Prelude.{◌<◌, ◌≤◌};
 
 use machine::Machine;
@@ -14,7 +16,7 @@ use words::word_at;
 
 // A station's part of a request: where the nodes, the words and the inputs start, how many of each there are, the length of the lent history,
 // and where the next part starts.
-#[derive(Drop)]
+#[derive(Clone, Copy)]
 struct Part {
     rule: usize,
     nodes: usize,

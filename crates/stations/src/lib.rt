@@ -1,5 +1,7 @@
 // Four stations, one allowance: request 2026-10. A booth of the paper is a station here. Rules and scripts come in either stored form, those
 // of all four in the same one: of `rule0` and `rule_wide0` the one that `is_wide` says is read, and so of the others.
+#![tactic(auto)]
+
 ghost use Rattle.std.specs.Prelude.{◌≡◌, length};
 ghost use Rattle.spec.specs.Rule.{form32, form64};
 ghost use Rattle.turns.specs.Stations.{station_count, four, running_stations};
@@ -18,7 +20,7 @@ mod running;
 mod turning;
 
 // What is left of the allowance, how many successive stations were passed over, and how many turns there were.
-#[derive(Drop)]
+#[derive(Clone, Copy)]
 pub(crate) struct Counts {
     pub left: u64,
     pub passes: u64,
@@ -26,7 +28,7 @@ pub(crate) struct Counts {
 }
 
 // Where a run of the four stands.
-#[derive(Drop)]
+#[derive(Clone, Copy)]
 pub(crate) struct Progress {
     pub first: Machine,
     pub second: Machine,
@@ -36,7 +38,7 @@ pub(crate) struct Progress {
 }
 
 // What a run of four stations answers.
-#[derive(Drop)]
+#[derive(Clone, Copy)]
 pub enum StationsAnswer {
     // The turns, and what is left of the allowance.
     Ran { turns: u64, left: u64 },
@@ -45,7 +47,7 @@ pub enum StationsAnswer {
 }
 
 // The four machines after a run, and its answer.
-#[derive(Drop)]
+#[derive(Clone, Copy)]
 pub struct FourStates {
     pub first: Machine,
     pub second: Machine,

@@ -13,7 +13,7 @@ use script::instruction::{Instruction, decode, line_word};
 use script::line::{count_lines, is_present};
 
 // A machine after its turn, what is left of the allowance, and whether the machine moved.
-#[derive(Drop)]
+#[derive(Clone, Copy)]
 pub(crate) struct Turn {
     pub machine: Machine,
     pub left: u64,

@@ -1,5 +1,7 @@
 // Rules typed as text: questions 16, 17, 18 and 13, and the nodes of the opened formula. A function whose name ends in 64 writes a rule of
 // the second form, one without the ending a rule of the old form.
+#![tactic(auto)]
+
 ghost use Rattle.std.specs.Prelude.{◌≡◌, ◌++◌, ◌≤◌, length, drop};
 ghost use Rattle.spec.specs.Rule.{form32, form64};
 ghost use Rattle.grammar.specs.Texting.{texting, count_of, output_of};

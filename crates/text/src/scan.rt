@@ -10,7 +10,7 @@ use crate::token::{Lexed, Operator, Prefix, Token, digits_at, minus, one_byte, r
 use rule::answer::Answer;
 
 // What may come next.
-#[derive(Drop)]
+#[derive(Clone, Copy)]
 pub enum Want {
     Operand,
     Comparison,
@@ -19,7 +19,7 @@ pub enum Want {
 }
 
 // Between two tokens: what is wanted, how many brackets are open, and whether a word ends just before.
-#[derive(Drop)]
+#[derive(Clone, Copy)]
 pub struct Between {
     pub want: Want,
     pub depth: usize,

@@ -6,7 +6,7 @@ ghost use Rattle.text.specs.Stacks.{table_length, stack_length, waiting_of, entr
 use crate::table::{AND, OR, put_end};
 
 // How many words wait, and how many nodes are in the table.
-#[derive(Drop)]
+#[derive(Clone, Copy)]
 pub struct Height {
     pub top: usize,
     pub count: usize,

@@ -4,7 +4,7 @@ ghost use Rattle.grammar.specs.Grammar.{is_digit};
 ghost use Rattle.grammar.specs.Bytes.{leading_from, digits_in, agreeing};
 ghost use Rattle.text.specs.Tokens.{capped, word_at};
 
-#[derive(Drop)]
+#[derive(Clone, Copy)]
 pub enum Prefix {
     Not,
     Wprev,
@@ -13,7 +13,7 @@ pub enum Prefix {
     Sofar,
 }
 
-#[derive(Drop)]
+#[derive(Clone, Copy)]
 pub enum Operator {
     Since,
     And,
@@ -22,7 +22,7 @@ pub enum Operator {
 }
 
 // A space is none of the grammar's tokens: it is passed over.
-#[derive(Drop)]
+#[derive(Clone, Copy)]
 pub enum Token {
     Space,
     Constant { value: bool },
@@ -37,13 +37,13 @@ pub enum Token {
 }
 
 // A token and the place behind it, or the place that no text goes on at.
-#[derive(Drop)]
+#[derive(Clone, Copy)]
 pub enum Lexed {
     Found { token: Token, next: usize },
     Stuck { place: usize },
 }
 
-#[derive(Drop)]
+#[derive(Clone, Copy)]
 pub struct Digits {
     pub value: u32,
     pub next: usize,

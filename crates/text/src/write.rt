@@ -21,7 +21,7 @@ use crate::table::{
 use crate::token::{Lexed, Operator, Prefix, Token, minus};
 
 // How many words wait and nodes are there, and the register and the sign of the atom that is being read.
-#[derive(Drop)]
+#[derive(Clone, Copy)]
 pub struct Progress {
     pub height: Height,
     pub register: u32,

@@ -1,4 +1,6 @@
 // Words of 32 bits in a sequence of bytes, high byte first; words that are counted.
+#![tactic(auto)]
+
 ghost use Rattle.std.specs.Prelude.{◌≡◌, ◌<◌};
 ghost use Rattle.words.specs.Words.{word_at};
 
