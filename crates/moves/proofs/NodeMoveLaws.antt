@@ -120,7 +120,7 @@ pub narrowable : (rule : List ℕ) → check_rule form64 rule ≡ passed tt → 
 narrowable rule passes few k l =
     let out = rule_out form64 rule passes in
     let lower = rw (node_read_lem form64 good64.no_node rule k) at (out.ordered.lower k) in
-    narrow_fields (form64.read_node (get_or rule k 0)) k (omega arith) (out.fields_fit k l) lower
+    narrow_fields (form64.read_node (get_or rule k 0)) k (omega arith) (out.fields_fit_lem k l) lower
 
 narrower : (w : ℕ) → Narrow (node_fields64 w) → FieldsWithin 5 1 (node_fields64 w)
 narrower w n =

@@ -2,7 +2,7 @@
 -- A run of four stations: their turns, when a station is passed over, when the run ends, and what is refused.
 -- `specs/StationsPromise.antt` says what holds of it.
 use Rattle.std.specs.Prelude.{Bool, true, false, cond, ◌&&◌, ◌||◌, List, ℕ, zero, suc, ◌-◌, ◌%◌, eqb}
-use Rattle.std.proofs.Math.Option.{Option, Option·elim}
+use Rattle.std.proofs.Math.Option.{Option, Option-elim}
 use Rattle.spec.specs.Questions.{Answer, passed, refused, Checked, ◌then◌, ask_once}
 use Rattle.spec.specs.Rule.{Form}
 use Rattle.spec.specs.Judging.{question15}
@@ -79,7 +79,7 @@ instruction_for form x m = instruction_at (code_of (lines_of form x.script)) m.l
 
 -- is there a stop?
 abbrev pub is_stopped : Option Stop → Bool
-is_stopped o = Option·elim o false (λ s. true)
+is_stopped o = Option-elim o false (λ s. true)
 
 -- a booth is passed over when halted, dry or full, or when it would present and the allowance is 0; i is where it stands
 unfoldable pub passed_at : (inputs : List ℕ) → Instruction → (left : ℕ) → Machine → Bool

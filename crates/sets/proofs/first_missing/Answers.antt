@@ -9,8 +9,7 @@ use Rattle.spec.proofs.StoredLaws.{no_nodes_lem}
 use Rattle.sets.specs.Sets.{set_of, excluding}
 use Rattle.sets.proofs.WordLaws.{full_set}
 use borrow.Author.Rules.{rules}
-use Rattle.sets.proofs.first_missing.Statement.{statement}
-use Rattle.sets.proofs.first_missing.Tie as tie
+use Rattle.sets.proofs.first_missing.Goals as goal
 
 has_it : (a b : Bool) → a ≡ true → (a && not b) ≡ false → b ≡ true
 has_it true true e d = e
@@ -22,19 +21,13 @@ has_not true true d = clash d refl
 has_not true false d = refl
 has_not false b d = clash d refl
 
-difference-requires : tie.Need-difference-requires
-difference-requires c κs = search rules
-
-first-from-requires : tie.Need-first-from-requires
-first-from-requires c κs = search rules
-
-returns : tie.Need-returns
+pub returns : goal.returns
 unfolding excluding
 returns c =
-    let w = c.before.before.args.w in
-    let f = c.first-from.ensures in
-    let r = c.first-from.result in
-    let other : (j : ℕ) → set_of c.before.difference.result j ≡ (set_of 18446744073709551615 j && not (set_of w j)) = λ j. ap (λ s. s j) c.before.difference.ensures in
+    let w = c.args.w in
+    let f = c.first_from.ensures in
+    let r = c.first_from.result in
+    let other : (j : ℕ) → set_of c.difference.result j ≡ (set_of 18446744073709551615 j && not (set_of w j)) = λ j. ap (λ s. s j) c.difference.ensures in
     record {
       most = f.most;
       all_before = λ j h.
@@ -45,11 +38,3 @@ returns c =
         | inr h ↦ has_not (set_of 18446744073709551615 r) (set_of w r) (sym (other r) ∙ f.is_there h)
       ];
     }
-
-pub first-missing-spec : {M : Type 1} → statement M
-first-missing-spec =
-    tie.close
-    (tie.spec
-    difference-requires
-    first-from-requires
-    returns)

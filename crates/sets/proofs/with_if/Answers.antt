@@ -1,0 +1,12 @@
+-- `sets::with_if` meets its contract (`WordLaws`). Assumes nothing.
+use mathlib.Core.Path.{◌≡◌, ap, sym, ◌∙◌}
+use Rattle.sets.proofs.SetLaws.{adding_not}
+use Rattle.sets.specs.Sets.{set_of, adding}
+use borrow.Author.Rules.{rules}
+use Rattle.sets.proofs.with_if.Goals as goal
+
+pub returns-then-when : goal.returns-then-when
+returns-then-when c = rw c.if-when.true c.with.ensures
+
+pub returns-else-when : goal.returns-else-when
+returns-else-when c = rw c.if-when.false (adding_not _ c.args.k)
