@@ -1,0 +1,36 @@
+-- `rule::monitor::tested_registers` meets its contract. The loop keeps: the set is that of the nodes below k. Assumes nothing.
+use Prim.Native.Nat.{◌-◌, ◌≤◌}
+use mathlib.Core.Path.{◌≡◌, sym, ap, ap₂, ◌∙◌}
+use native.Mathlib.Omega.{arith}
+use native.Mathlib.Numerals.{add-one}
+use lib.ListN.{length}
+use Rattle.spec.specs.Rule.{Node}
+use Rattle.spec.proofs.RuleLaws.{length_table}
+use Rattle.spec.specs.Monitor.{node_reads, rule_reads}
+use Rattle.sets.specs.Sets.{Nodes, set_of}
+use Rattle.sets.proofs.SetLaws.{empty_is}
+use Rattle.rule.specs.Nodes.{form_in, table_in}
+use Rattle.rule.specs.Monitor.{with_registers}
+use Rattle.rule.proofs.NodeLaws.{node_at_lem}
+use Rattle.rule.proofs.MonitorLaws.{read_of, tested_none, tested_next}
+use borrow.Author.Rules.{rules}
+use Rattle.rule.proofs.monitor.tested_registers.Goals as goal
+
+pub loop-k-init : goal.loop-k-init
+loop-k-init c = (search rules, empty_is ∙ tested_none (table_in c.args.rule.now))
+
+pub loop-k-preserved : goal.loop-k-preserved
+loop-k-preserved c =
+    let rule = c.args.rule.now in
+    let l = c.loop-k in
+    let node = c.read_node.ensures.node ∙ sym (node_at_lem rule l.k) in (
+      search rules,
+      rw add-one (c.with_tested-tested.ensures ∙ ap₂ (λ (s : Nodes) (x : Node). with_registers s (node_reads x)) l.invariant.1 node ∙ tested_next l.k (table_in rule)),
+    )
+
+pub returns : goal.returns
+unfolding rule_reads
+returns c =
+    let rule = c.args.rule.now in
+    let e : c.loop-k.k ≡ length (table_in rule) = omega (arith, length_table form_in rule) in
+    c.loop-k.invariant.1 ∙ ap (λ n. read_of n (table_in rule)) e
