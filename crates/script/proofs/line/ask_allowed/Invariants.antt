@@ -1,0 +1,24 @@
+-- `script::line::ask_allowed` meets its contract: the loop is a scan for the lowest failing place (`QuestionLaws`), with `at` where line l
+-- starts (`StrideLaws`). Assumes nothing.
+use Prim.Native.Nat.{◌+◌, ◌*◌, ◌-◌, ◌<◌, ◌≤◌}
+use mathlib.Core.Path.{◌≡◌, sym, ap, ◌∙◌}
+use mathlib.Core.Bool.{true}
+use native.Mathlib.Omega.{arith}
+use lib.ListN.{length, get_or}
+use borrow.Author.Tests.{not-true, not-false}
+use Rattle.spec.proofs.QuestionLaws.{Scanned, scanned_start, scanned_next, scan_no, scan_yes}
+use Rattle.spec.specs.Rule.{Table}
+use Rattle.spec.specs.Script.{line_allowed, question6}
+use Rattle.rule.specs.Nodes.{stored_in, words_in}
+use Rattle.rule.proofs.EitherLaws.{size_most}
+use Rattle.script.specs.Lines.{opcodes_of, Known, first_allowed, strided}
+use Rattle.script.proofs.StrideLaws.{stride_in, stride_next, stride_step, allowed_at}
+use borrow.Author.Rules.{rules}
+use Rattle.script.proofs.line.ask_allowed.Given as goal
+
+abbrev pub invariant-loop-l : goal.invariant-loop-l
+invariant-loop-l l = (0 < l.stride) × (l.stride * l.lines ≤ length (stored_in l.is_wide l.narrow l.wide)) × (l.at ≡ l.stride * l.l)
+    × ((t : Table) → Known l.opcodes t l.past l.work → Scanned (line_allowed t (opcodes_of l.opcodes) (strided true l.stride l.lines (words_in l.is_wide l.narrow l.wide))) l.lines l.l)
+
+abbrev pub decreases-loop-l : goal.decreases-loop-l
+decreases-loop-l l = l.lines - l.l
