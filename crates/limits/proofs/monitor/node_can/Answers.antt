@@ -1,0 +1,61 @@
+-- `limits::monitor::node_can` meets its contract (`MonitorLaws`). Assumes nothing.
+use Prim.Native.Nat.{◌<◌}
+use mathlib.Core.Path.{◌≡◌, refl, sym, ap, ap₂, subst, ◌∙◌}
+use mathlib.Core.Bool.{true}
+use native.Mathlib.Omega.{arith}
+use borrow.Author.Tests.{ltb-true}
+use Rattle.spec.specs.Rule.{node_allowed}
+use Rattle.rule.specs.Nodes.{node_read, NodeSmall}
+use Rattle.limits.proofs.MonitorLaws.{both_sides}
+use Rattle.limits.specs.Monitor.{implies_can, since_can, cans_of, node_can}
+use borrow.Author.Rules.{rules}
+use Rattle.limits.proofs.monitor.node_can.Goals as goal
+
+pub equal_can-requires : goal.equal_can-requires
+equal_can-requires c = let small = subst NodeSmall (ap node_read c.in-Equal.is) c.requires.2 in let lo = c.requires.0 in let hi = c.requires.1 in (omega (arith, small.0), omega (arith, small.0))
+
+pub below_can-requires : goal.below_can-requires
+below_can-requires c = let small = subst NodeSmall (ap node_read c.in-Below.is) c.requires.2 in let lo = c.requires.0 in let hi = c.requires.1 in (omega (arith, small.0), omega (arith, small.0))
+
+pub can_at-requires : goal.can_at-requires
+can_at-requires c = (subst NodeSmall (ap node_read c.in-Implies.is) c.requires.2).0
+
+pub can_at-requires-in-Implies : goal.can_at-requires-in-Implies
+can_at-requires-in-Implies c = (subst NodeSmall (ap node_read c.in-Implies.is) c.requires.2).1
+
+pub can_at-requires-in-Since : goal.can_at-requires-in-Since
+can_at-requires-in-Since c = (subst NodeSmall (ap node_read c.in-Since.is) c.requires.2).0
+
+pub can_at-requires-in-Since-2 : goal.can_at-requires-in-Since-2
+can_at-requires-in-Since-2 c = (subst NodeSmall (ap node_read c.in-Since.is) c.requires.2).1
+
+pub equal_registers_can-requires : goal.equal_registers_can-requires
+equal_registers_can-requires c = let small = subst NodeSmall (ap node_read c.in-EqualRegisters.is) c.requires.2 in let lo = c.requires.0 in let hi = c.requires.1 in let other : c.in-EqualRegisters.other < 16 = ltb-true c.in-EqualRegisters.other 16 (subst (λ y. node_allowed y ≡ true) (ap node_read c.in-EqualRegisters.is) c.requires.3) in (omega (arith, small.0), omega (arith, small.0), omega arith, omega arith)
+
+pub returns-in-False : goal.returns-in-False
+unfolding node_can
+returns-in-False c = let a = c.args in both_sides refl refl ∙ sym (ap (λ y. node_can (node_read y) a.k a.low.now a.high.now (cans_of a.values) (cans_of a.priors)) c.in-False.is)
+
+pub returns-in-Equal : goal.returns-in-Equal
+unfolding node_can
+returns-in-Equal c = let a = c.args in c.equal_can.ensures ∙ sym (ap (λ y. node_can (node_read y) a.k a.low.now a.high.now (cans_of a.values) (cans_of a.priors)) c.in-Equal.is)
+
+pub returns-in-Below : goal.returns-in-Below
+unfolding node_can
+returns-in-Below c = let a = c.args in c.below_can.ensures ∙ sym (ap (λ y. node_can (node_read y) a.k a.low.now a.high.now (cans_of a.values) (cans_of a.priors)) c.in-Below.is)
+
+pub returns-in-Implies : goal.returns-in-Implies
+unfolding node_can
+returns-in-Implies c = let a = c.args in c.implies_can.ensures ∙ ap₂ implies_can c.can_at.ensures c.can_at-in-Implies.ensures ∙ sym (ap (λ y. node_can (node_read y) a.k a.low.now a.high.now (cans_of a.values) (cans_of a.priors)) c.in-Implies.is)
+
+pub returns-in-Since : goal.returns-in-Since
+unfolding node_can
+returns-in-Since c = let a = c.args in let l = c.can_at-in-Since.ensures in let r = c.can_at-in-Since-2.ensures in let p = c.can_at-in-Since-3.ensures in c.since_can.ensures ∙ (λ i. since_can (l i) (r i) (p i)) ∙ sym (ap (λ y. node_can (node_read y) a.k a.low.now a.high.now (cans_of a.values) (cans_of a.priors)) c.in-Since.is)
+
+pub returns-in-WeakPrevious : goal.returns-in-WeakPrevious
+unfolding node_can
+returns-in-WeakPrevious c = let a = c.args in c.can_at-in-WeakPrevious.ensures ∙ sym (ap (λ y. node_can (node_read y) a.k a.low.now a.high.now (cans_of a.values) (cans_of a.priors)) c.in-WeakPrevious.is)
+
+pub returns-in-EqualRegisters : goal.returns-in-EqualRegisters
+unfolding node_can
+returns-in-EqualRegisters c = let a = c.args in c.equal_registers_can.ensures ∙ sym (ap (λ y. node_can (node_read y) a.k a.low.now a.high.now (cans_of a.values) (cans_of a.priors)) c.in-EqualRegisters.is)

@@ -1,0 +1,15 @@
+-- `text::range::ask_range` meets its contract: the places passed start no number out of range (`InRangeLaws.Ranging`). What is left of the
+-- text falls. Assumes nothing.
+use mathlib.Core.Path.{sym, ◌∙◌}
+use Prim.Native.Nat.{◌-◌}
+use lib.ListN.{length}
+use borrow.Author.Tests.{not-true, not-false}
+use borrow.Author.Rules.{rules}
+use Rattle.text.proofs.InRangeLaws.{Ranging, ranging_start, ranging_next, ranging_stop, ranging_end}
+use Rattle.text.proofs.range.ask_range.Given as goal
+
+abbrev pub invariant-loop-i : goal.invariant-loop-i
+invariant-loop-i l = Ranging l.text l.before l.i
+
+abbrev pub decreases-loop-i : goal.decreases-loop-i
+decreases-loop-i l = length l.text - l.i

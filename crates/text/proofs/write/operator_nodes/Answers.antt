@@ -1,0 +1,19 @@
+-- `text::write::operator_nodes` meets its contract. Assumes nothing.
+use mathlib.Core.Path.{sym, ap}
+use borrow.Author.Rules.{rules}
+use Rattle.grammar.specs.Grammar.{operator_word, word}
+use Rattle.text.specs.Building.{token_cost}
+use Rattle.text.specs.Tokens.{operator_of}
+use Rattle.text.proofs.write.operator_nodes.Goals as goal
+
+pub returns-in-Since : goal.returns-in-Since
+returns-in-Since c = ap (λ w. token_cost (word (operator_word (operator_of w)))) (sym c.in-Since.is)
+
+pub returns-in-And : goal.returns-in-And
+returns-in-And c = ap (λ w. token_cost (word (operator_word (operator_of w)))) (sym c.in-And.is)
+
+pub returns-in-Or : goal.returns-in-Or
+returns-in-Or c = ap (λ w. token_cost (word (operator_word (operator_of w)))) (sym c.in-Or.is)
+
+pub returns-in-Implies : goal.returns-in-Implies
+returns-in-Implies c = ap (λ w. token_cost (word (operator_word (operator_of w)))) (sym c.in-Implies.is)

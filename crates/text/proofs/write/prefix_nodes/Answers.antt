@@ -1,0 +1,22 @@
+-- `text::write::prefix_nodes` meets its contract. Assumes nothing.
+use mathlib.Core.Path.{sym, ap}
+use borrow.Author.Rules.{rules}
+use Rattle.grammar.specs.Grammar.{prefix_word, word}
+use Rattle.text.specs.Building.{token_cost}
+use Rattle.text.specs.Tokens.{prefix_of}
+use Rattle.text.proofs.write.prefix_nodes.Goals as goal
+
+pub returns-in-Not : goal.returns-in-Not
+returns-in-Not c = ap (λ w. token_cost (word (prefix_word (prefix_of w)))) (sym c.in-Not.is)
+
+pub returns-in-Wprev : goal.returns-in-Wprev
+returns-in-Wprev c = ap (λ w. token_cost (word (prefix_word (prefix_of w)))) (sym c.in-Wprev.is)
+
+pub returns-in-Prev : goal.returns-in-Prev
+returns-in-Prev c = ap (λ w. token_cost (word (prefix_word (prefix_of w)))) (sym c.in-Prev.is)
+
+pub returns-in-Once : goal.returns-in-Once
+returns-in-Once c = ap (λ w. token_cost (word (prefix_word (prefix_of w)))) (sym c.in-Once.is)
+
+pub returns-in-Sofar : goal.returns-in-Sofar
+returns-in-Sofar c = ap (λ w. token_cost (word (prefix_word (prefix_of w)))) (sym c.in-Sofar.is)
