@@ -34,8 +34,4 @@ loop-k-preserved c = let a = c.args in
 
 pub returns : goal.returns
 returns c = let a = c.args in
-    let e : c.loop-k.k ≡ length (table_of form_in a.rule.now) = omega (arith, length_table form_in a.rule.now) in let rest = (
-      gather_end (λ j. is_since (node_at (table_of form_in a.rule.now) j)) _ _ (λ j i. rw e (since_in (table_of form_in a.rule.now) j i)) c.loop-k.invariant.3,
-      gather_end (λ j. is_weak_previous (node_at (table_of form_in a.rule.now) j)) _ _ (λ j i. rw e (weak_in (table_of form_in a.rule.now) j i)) c.loop-k.invariant.4,
-    ) in
-    record { nodes = gather_end (λ j. ltb j (length (table_of form_in a.rule.now))) _ _ (λ j i. rw e (ltb-true _ _ i)) c.loop-k.invariant.2; sinces = rest.0; weak = rest.1 }
+    let e : c.loop-k.k ≡ length (table_of form_in a.rule.now) = omega (arith, length_table form_in a.rule.now) in record { nodes = gather_end (λ j. ltb j (length (table_of form_in a.rule.now))) _ _ (λ j i. rw e (ltb-true _ _ i)) c.loop-k.invariant.2; sinces = gather_end (λ j. is_since (node_at (table_of form_in a.rule.now) j)) _ _ (λ j i. rw e (since_in (table_of form_in a.rule.now) j i)) c.loop-k.invariant.3; weak = gather_end (λ j. is_weak_previous (node_at (table_of form_in a.rule.now) j)) _ _ (λ j i. rw e (weak_in (table_of form_in a.rule.now) j i)) c.loop-k.invariant.4 }

@@ -28,12 +28,12 @@ loop-k-preserved c = let a = c.args in
     let rule = a.rule.now in
     let few = few_held rule c.loop-k.invariant.0 in
     let inside : c.loop-k.k < length c.loop-k.earlier = omega arith in
-    let same = ap (λ j. get_or a.t2 j 0) c.next_of.ensures in (
+    let same = ap (λ j. get_or a.registers j 0) c.next_of.ensures in (
       c.loop-k.invariant.0,
       search rules,
       length-set c.loop-k.earlier c.loop-k.k _ ∙ c.loop-k.invariant.2,
-      rw add-one (subst (λ w. MovedTo (table_in rule) a.t2 (set c.loop-k.earlier c.loop-k.k w) (suc c.loop-k.k)) (sym same)
-          (moved_next (table_in rule) a.t2 c.loop-k.earlier c.loop-k.k inside c.loop-k.invariant.3)),
+      rw add-one (subst (λ w. MovedTo (table_in rule) a.registers (set c.loop-k.earlier c.loop-k.k w) (suc c.loop-k.k)) (sym same)
+          (moved_next (table_in rule) a.registers c.loop-k.earlier c.loop-k.k inside c.loop-k.invariant.3)),
     )
 
 pub returns : goal.returns

@@ -31,11 +31,11 @@ loop-k-preserved c = let a = c.args in
     let inside : c.loop-k.k < length c.loop-k.registers = omega arith in
     let e = c.read_node.ensures.node ∙ sym (node_at_lem rule c.loop-k.k) in
     let w = c.node_registers.result in
-    let own = c.node_registers.ensures ∙ ap (λ (x : Node). node_registers x c.loop-k.k (cans_of a.values) (cans_of a.priors) (sets_in c.loop-k.registers) (sets_in a.t4)) e in (
+    let own = c.node_registers.ensures ∙ ap (λ (x : Node). node_registers x c.loop-k.k (cans_of a.values) (cans_of a.priors) (sets_in c.loop-k.registers) (sets_in a.earlier)) e in (
       c.loop-k.invariant.0,
       search rules,
       length-set c.loop-k.registers c.loop-k.k w ∙ c.loop-k.invariant.2,
-      rw add-one (registers_next (cans_of a.values) (cans_of a.priors) (sets_in a.t4) (table_in rule) (rule_out form_in rule c.loop-k.invariant.0).ordered c.loop-k.registers c.loop-k.k w inside own c.loop-k.invariant.3),
+      rw add-one (registers_next (cans_of a.values) (cans_of a.priors) (sets_in a.earlier) (table_in rule) (rule_out form_in rule c.loop-k.invariant.0).ordered c.loop-k.registers c.loop-k.k w inside own c.loop-k.invariant.3),
     )
 
 pub returns : goal.returns
