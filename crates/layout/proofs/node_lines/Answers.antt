@@ -119,7 +119,7 @@ returns-then-has c =
     let a = c.args in
     let p = c.requires in
     let is = node_at_lem a.rule.now a.k ∙ sym c.read_node-x.ensures.node in
-    let other = ap is_past is ∙ rest_not_past c.read_node-x.result c.in_default.in_default-own.keys3 in
+    let other = ap is_past is ∙ rest_not_past c.read_node-x.result c.in_default.not-Since c.in_default.not-WeakPrevious in
     shared_lines a.rule.now a.sizes.now a.k p.0 p.2 other
     (sym (ap (λ f. f a.k) p.1) ∙ sym c.has.ensures ∙ c.if-has.true) _
     (c.node_size.ensures ∙ ap (λ x. size_from (λ j. get_or a.sizes.now j 0) x 0) (sym is))
@@ -129,5 +129,5 @@ returns-else-has c =
     let a = c.args in
     let p = c.requires in
     let is = node_at_lem a.rule.now a.k ∙ sym c.read_node-x.ensures.node in
-    let other = ap is_past is ∙ rest_not_past c.read_node-x.result c.in_default.in_default-own.keys3 in
+    let other = ap is_past is ∙ rest_not_past c.read_node-x.result c.in_default.not-Since c.in_default.not-WeakPrevious in
     no_lines a.rule.now a.sizes.now a.k p.0 p.2 other (sym (ap (λ f. f a.k) p.1) ∙ sym c.has.ensures ∙ c.if-has.false)

@@ -21,10 +21,10 @@ pub bounds-narrow-i : goal.bounds-narrow-i
 bounds-narrow-i c = let h : c.args.i < length c.args.narrow.now = subst (λ b. c.args.i < length (stored_in b c.args.narrow.now c.args.wide.now)) c.if-is_wide.false c.requires in omega arith
 
 pub overflow_cast-result : goal.overflow_cast-result
-overflow_cast-result c = omega (arith, c.shared_slice_known-else-is_wide-1.given c.args.i)
+overflow_cast-result c = omega (arith, c.type_inv.narrow c.args.i)
 
 pub overflow_mul-result : goal.overflow_mul-result
-overflow_mul-result c = omega (arith, c.shared_slice_known-else-is_wide-1.given c.args.i)
+overflow_mul-result c = omega (arith, c.type_inv.narrow c.args.i)
 
 pub returns-then-is_wide : goal.returns-then-is_wide
 returns-then-is_wide c = sym (ap (λ b. get_or (words_in b c.args.narrow.now c.args.wide.now) c.args.i 0) c.if-is_wide.true)
