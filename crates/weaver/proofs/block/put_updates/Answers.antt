@@ -1,0 +1,67 @@
+-- `weaver::block::put_updates` meets its contract: the loop keeps: the code of the nodes below k is written
+-- (`SeriesLaws.Filled`), and `done` has the nodes with a work bit among them. Assumes nothing.
+use mathlib.Core.Path.{◌≡◌, ap, ◌∙◌}
+use Prim.Native.Nat.{◌+◌, ◌-◌, ◌≤◌, ◌<◌}
+use lib.ListN.{length}
+use Rattle.rule.proofs.PutLaws.{put_lengths}
+use Rattle.spec.proofs.WeaverLaws.{length_updates}
+use Rattle.spec.proofs.RuleLaws.{rule_out}
+use Rattle.spec.specs.Weaver.{done_facts}
+use Rattle.spec.specs.Rule.{form64, has_work}
+use Rattle.sets.specs.Sets.{capacity}
+use Rattle.facts.proofs.GroupLaws.{Gathered, gather_start, gather_next}
+use Rattle.rule.specs.Nodes.{form_in, table_in}
+use Rattle.facts.specs.FactSets.{facts_of}
+use Rattle.facts.proofs.OverLaws.{written_as}
+use Rattle.weaver.proofs.BlockLaws.{updating_series, updatable_room, updating_few, updating_node, updating_size, updating_code}
+use Rattle.weaver.proofs.SeriesLaws.{Filled, filled_start, filled_next, filled_end}
+use Rattle.weaver.proofs.NotedLaws.{done_noted}
+use native.Mathlib.Omega.{arith}
+use borrow.Author.Rules.{rules}
+use Rattle.weaver.proofs.block.put_updates.Goals as goal
+
+pub loop-k-init : goal.loop-k-init
+loop-k-init c = let a = c.args in (filled_start (updating_series (table_in a.rule.now) a.place) a.is_wide 0 a.narrow.now a.wide.now, omega arith, gather_start (has_work (table_in a.rule.now)))
+
+pub overflow_add-place : goal.overflow_add-place
+overflow_add-place c = let a = c.args in let f0 = (updating_few a.rule.now a.sizes.now a.shared a.is_wide a.place a.narrow.now a.wide.now c.requires.0 c.loop-k.narrow c.loop-k.wide c.loop-k.n c.loop-k.k c.loop-k.invariant.0 c.loop-k-test.true).0 in let f1 = (updating_few a.rule.now a.sizes.now a.shared a.is_wide a.place a.narrow.now a.wide.now c.requires.0 c.loop-k.narrow c.loop-k.wide c.loop-k.n c.loop-k.k c.loop-k.invariant.0 c.loop-k-test.true).1 in omega arith
+
+pub put_work-n-requires : goal.put_work-n-requires
+put_work-n-requires c = let a = c.args in updating_node a.rule.now a.sizes.now a.shared a.is_wide a.place a.narrow.now a.wide.now c.requires.0 c.loop-k.narrow c.loop-k.wide c.loop-k.n c.loop-k.k c.loop-k.invariant.0 c.loop-k-test.true
+
+pub overflow_add-n : goal.overflow_add-n
+overflow_add-n c = let a = c.args in let f0 = (updating_few a.rule.now a.sizes.now a.shared a.is_wide a.place a.narrow.now a.wide.now c.requires.0 c.loop-k.narrow c.loop-k.wide c.loop-k.n c.loop-k.k c.loop-k.invariant.0 c.loop-k-test.true).0 in let f1 = (updating_few a.rule.now a.sizes.now a.shared a.is_wide a.place a.narrow.now a.wide.now c.requires.0 c.loop-k.narrow c.loop-k.wide c.loop-k.n c.loop-k.k c.loop-k.invariant.0 c.loop-k-test.true).1 in omega (arith, c.put_work-n.ensures.0)
+
+pub overflow_add-k : goal.overflow_add-k
+overflow_add-k c = let h = c.loop-k-test.true in omega arith
+
+pub loop-k-smaller : goal.loop-k-smaller
+loop-k-smaller c = let h = c.loop-k-test.true in omega arith
+
+pub loop-k-preserved : goal.loop-k-preserved
+unfolding form64
+loop-k-preserved c = let a = c.args in
+    let t = table_in a.rule.now in
+    let u = c.requires.0 in
+    let h = c.loop-k-test.true in
+    let few = (rule_out form_in a.rule.now u.sized.0).few_nodes in
+    let small : c.loop-k.k < capacity = omega arith in
+    let noted : facts_of c.noted-x.result ≡ done_facts t c.loop-k.k = c.noted-x.ensures ∙ done_noted t a.past c.requires.1 c.loop-k.k c.loop-k.done c.loop-k.invariant.2 in (
+      filled_next (updating_series (table_in a.rule.now) a.place) a.is_wide 0 a.narrow.now a.wide.now c.loop-k.narrow c.loop-k.wide c.loop-k.n c.loop-k.k (length a.rule.now) c.loop-k.invariant.0 c.loop-k.invariant.1 (updatable_room a.rule.now a.sizes.now a.shared a.is_wide a.place a.narrow.now a.wide.now c.requires.0) h c.put_work-n.result (a.place + c.loop-k.n - a.place) _ _
+          (updating_size a.rule.now a.sizes.now a.shared a.is_wide a.place a.narrow.now a.wide.now c.requires.0 c.loop-k.narrow c.loop-k.wide c.loop-k.n c.loop-k.k c.loop-k.invariant.0 c.loop-k-test.true c.put_work-n.result c.put_work-n.ensures.0) (omega arith)
+          (written_as a.is_wide (a.place + c.loop-k.n - a.place) _ _ _ _ _ _ (updating_code a.rule.now a.sizes.now a.shared a.is_wide a.place a.narrow.now a.wide.now c.requires.0 c.loop-k.narrow c.loop-k.wide c.loop-k.n c.loop-k.k c.loop-k.invariant.0 c.loop-k-test.true (facts_of c.noted-x.result) noted) c.put_work-n.ensures.1),
+      omega arith,
+      gather_next (has_work t) c.loop-k.k c.loop-k.done c.with_if-done.result c.has.result small (c.has.ensures ∙ ap (λ s. s c.loop-k.k) c.requires.2) c.with_if-done.ensures c.loop-k.invariant.2,
+    )
+
+pub shape_of-narrow : goal.shape_of-narrow
+shape_of-narrow c = let a = c.args in (put_lengths a.is_wide _ _ a.narrow.now a.wide.now _ _ c.loop-k.invariant.0.1).0
+
+pub shape_of-wide : goal.shape_of-wide
+shape_of-wide c = let a = c.args in (put_lengths a.is_wide _ _ a.narrow.now a.wide.now _ _ c.loop-k.invariant.0.1).1
+
+pub returns : goal.returns
+returns c = let a = c.args in
+    let t = table_in a.rule.now in
+    let e = filled_end (updating_series (table_in a.rule.now) a.place) a.is_wide 0 a.narrow.now a.wide.now c.loop-k.narrow c.loop-k.wide c.loop-k.n c.loop-k.k (length a.rule.now) c.loop-k.invariant.0 c.loop-k.invariant.1 c.loop-k-test.false in
+    (e.0 ∙ length_updates t (rule_out form_in a.rule.now c.requires.0.sized.0).ordered (length a.rule.now) a.place, e.1)
