@@ -1,21 +1,24 @@
-//! Links the proved code, `libguard.a`, `libguard64.a`, `libguard_four.a` and `libguard_four64.a`. GUARD_LIB names their folder; without it, it is where `rt staticlib` writes them.
+//! Links the proved code, `libguard.a`, `libguard64.a`, `libguard_four.a` and `libguard_four64.a`. GUARD_LIB names their folder; without it each is
+//! where `rt lib` writes it, in the folder `out` of its crate.
 use std::env;
 use std::fs;
 use std::path::PathBuf;
 
 fn main() {
     println!("cargo:rerun-if-env-changed=GUARD_LIB");
-    let folder = env::var("GUARD_LIB").map(PathBuf::from).unwrap_or_else(|_| {
-        let here = PathBuf::from(env::var("CARGO_MANIFEST_DIR").unwrap());
-        here.join("../../target/staticlib")
-    });
-    println!("cargo:rustc-link-search=native={}", folder.display());
-    let first = folder.join("libguard.a");
+    let lent = env::var("GUARD_LIB").map(PathBuf::from).ok();
+    let crates = PathBuf::from(env::var("CARGO_MANIFEST_DIR").unwrap()).join("../../crates");
+    let library = |name: &str| {
+        let folder = lent.clone().unwrap_or_else(|| crates.join(name).join("out"));
+        println!("cargo:rustc-link-search=native={}", folder.display());
+        folder.join(format!("lib{name}.a"))
+    };
+    let first = library("guard");
     println!("cargo:rerun-if-changed={}", first.display());
     println!("cargo:rustc-link-lib=static=guard");
     // A folder from before 2026-07, which the benchmark is held against, has no library for the second form.
     println!("cargo:rustc-check-cfg=cfg(first_form_alone)");
-    let second = folder.join("libguard64.a");
+    let second = library("guard64");
     println!("cargo:rerun-if-changed={}", second.display());
     if second.exists() {
         println!("cargo:rustc-link-lib=static=guard64");
@@ -24,7 +27,7 @@ fn main() {
     }
     // One from before 2026-10 has none for four stations.
     println!("cargo:rustc-check-cfg=cfg(without_stations)");
-    let stations = ["guard_four", "guard_four64"].map(|name| (name, folder.join(format!("lib{name}.a"))));
+    let stations = ["guard_four", "guard_four64"].map(|name| (name, library(name)));
     stations.iter().for_each(|(_, library)| println!("cargo:rerun-if-changed={}", library.display()));
     if stations.iter().all(|(_, library)| library.exists()) {
         stations.iter().for_each(|(name, _)| println!("cargo:rustc-link-lib=static={name}"));
