@@ -12,22 +12,22 @@ use Rattle.machine.proofs.ready.renewal_of.Goals as goal
 pub returns-then-not-done : goal.returns-then-not-done
 returns-then-not-done c =
     let a = c.args in
-    let x = readiness_of a in
-    λ t s. ap (λ (b : Bool). cond b (ready_move t (instruction_in a.x) s x) x) (sym (not-true a.done c.if-not-done.true))
+    let x = readiness_of a.before in
+    λ t s. ap (λ (b : Bool). cond b (ready_move t (instruction_in a.x) s x) x) (sym c.if-not-done.true)
 
 pub returns-then-opcode-eq8 : goal.returns-then-opcode-eq8
 returns-then-opcode-eq8 c =
     let a = c.args in
-    λ t s. renew_present (fields_in a.x) t s (readiness_of a) a.done c.if-not-done.false c.if-opcode-eq8.true
+    λ t s. renew_present (fields_in a.x) t s (readiness_of a.before) a.done c.if-not-done.false c.if-opcode-eq8.true
 
 pub returns-then-is_write-has : goal.returns-then-is_write-has
 returns-then-is_write-has c =
     let a = c.args in
     let asked = ap₂ ◌&&◌ c.is_write.ensures c.has.ensures in
-    λ t s. renew_write (fields_in a.x) t s (readiness_of a) a.done c.if-not-done.false c.if-opcode-eq8.false (sym asked ∙ c.if-is_write-has.true)
+    λ t s. renew_write (fields_in a.x) t s (readiness_of a.before) a.done c.if-not-done.false c.if-opcode-eq8.false (sym asked ∙ c.if-is_write-has.true)
 
 pub returns : goal.returns
 returns c =
     let a = c.args in
     let asked = ap₂ ◌&&◌ c.is_write.ensures c.has.ensures in
-    λ t s. renew_not (fields_in a.x) t s (readiness_of a) a.done c.if-not-done.false c.if-opcode-eq8.false (sym asked ∙ c.if-is_write-has.false)
+    λ t s. renew_not (fields_in a.x) t s (readiness_of a.before) a.done c.if-not-done.false c.if-opcode-eq8.false (sym asked ∙ c.if-is_write-has.false)

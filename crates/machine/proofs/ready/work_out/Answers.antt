@@ -17,7 +17,7 @@ none_is false = refl
 pub returns : goal.returns
 returns c =
     let a = c.args in
-    let sixteen : length a.t2 ≡ 16 = search rules in
-    let told = c.watch-w.ensures ∙ watch_one (table_in a.rule.now) a.t2 (set_of a.priors) sixteen in
+    let sixteen : length a.registers ≡ 16 = search rules in
+    let told = c.watch-w.ensures ∙ watch_one (table_in a.rule.now) a.registers (set_of a.priors) sixteen in
     let ready = c.is_nothing.ensures ∙ ap (λ w. none_found w.found) told ∙ none_is _ in
     λ i. record { ready = ready i; priors = set_of a.priors; next = (told i).priors; tested = set_of a.tested }

@@ -21,63 +21,13 @@ use Rattle.facts.proofs.OverLaws.{written_then, written_as}
 use borrow.Author.Rules.{rules}
 use Rattle.weaver.proofs.decision.+put_decision.Goals as goal
 
-abbrev invariant_loop : put-decision-lts.invariant_loop
-invariant_loop rule sizes shared own k base place on-true on-false narrow₀ wide₀ is_wide by-kind₀ j₀ here₀ y₀ narrow wide by-kind j here y =
-    Deciding rule sizes shared by-kind j base here on-true on-false (stored_in is_wide narrow wide) × (j ≤ k)
-    × Completes is_wide (table_in rule) base on-true on-false own k place (facts_of y₀) narrow₀ wide₀ by-kind j here (facts_of y) narrow wide
-
-abbrev decreases_loop : put-decision-lts.decreases_loop
-decreases_loop rule sizes shared own k base place on-true on-false narrow₀ wide₀ is_wide by-kind₀ j₀ here₀ y₀ narrow wide by-kind j here y = j
-
--- ---- what is known at the head of the loop, and where the node is an implies that is decided by what it is
-
-abbrev Head : ℕ → Type 0
-Head t = put-decision-lts.At-loop (claims t) (put_decision_at t) put-decision.Post invariant_loop decreases_loop
-
-abbrev args_of : (t : ℕ) (h : Head t) → put-decision-lts.Start (claims t) (put_decision_at t) put-decision.Post invariant_loop decreases_loop
-args_of t h = h
-
-abbrev output_of : (t : ℕ) → Head t → List ℕ
-output_of t h = stored_in (args_of t h).args.is_wide h.loop.narrow h.loop.wide
-
-small : (t : ℕ) (h : Head t) → h.loop.j < 64
-small t h =
-    let a = (args_of t h).args in
-    few a.rule.now a.sizes.now a.shared h.loop.by_kind h.loop.j a.base h.loop.here a.on_true a.on_false (output_of t h) h.loop.inv.0
-
-abbrev Arm : ℕ → Type 0
-Arm t = put-decision-lts.After-known-told (claims t) (put_decision_at t) put-decision.Post invariant_loop decreases_loop
-
-abbrev head_of : (t : ℕ) → Arm t → Head t
-head_of t b = b
-
-abbrev left_of : (t : ℕ) → Arm t → ℕ
-left_of t b = b.node.given.0.0
-
-abbrev right_of : (t : ℕ) → Arm t → ℕ
-right_of t b = b.node.given.0.1.0
-
-arm : (t : ℕ) (b : Arm t)
-    → let h = head_of t b in
-    let a = (args_of t h).args in
-    Implied a.rule.now a.sizes.now a.shared h.loop.by_kind h.loop.j (left_of t b) (right_of t b) a.base h.loop.here a.on_true a.on_false (output_of t h)
-arm t b =
-    let h = head_of t b in
-    let a = (args_of t h).args in
-    let read = b.read_node in
-    implied a.rule.now a.sizes.now a.shared h.loop.by_kind h.loop.j a.base h.loop.here a.on_true a.on_false (output_of t h) h.loop.inv.0
-    (asked_as _ _ h.loop.by_kind _ b.has.ensures b.if1.left) (left_of t b) (right_of t b)
-    (node_at_lem a.rule.now h.loop.j ∙ sym read.ensures.0 ∙ ap node_read b.node.given.1)
-
--- ---- the needs
-
 pub loop-by_kind-init : goal.loop-by_kind-init
 loop-by_kind-init t c = (c.requires, omega arith, λ n w h. h)
 
 pub encode-branch-requires : goal.encode-branch-requires
 encode-branch-requires t c =
-    let a = (args_of t c).args in
-    let f = small t c in
+    let a = c.args in
+    let f = few _ _ _ _ _ _ _ _ _ _ c.loop-by_kind.invariant.0 in
     (omega arith, omega arith, omega arith, c.loop-by_kind.invariant.0.true_line)
 
 pub overflow_sub-here : goal.overflow_sub-here
@@ -85,67 +35,75 @@ overflow_sub-here t c = c.loop-by_kind.invariant.0.from_base
 
 pub put_leaf-requires : goal.put_leaf-requires
 put_leaf-requires t c =
-    let a = (args_of t c).args in
+    let a = c.args in
     let asked = asked_as _ _ c.loop-by_kind.by_kind _ c.has.ensures c.if-has-by_kind.true in
-    (small t c, c.loop-by_kind.invariant.0.false_line, work_room a.rule.now a.sizes.now a.shared c.loop-by_kind.by_kind c.loop-by_kind.j a.base c.loop-by_kind.here a.on_true a.on_false (output_of t c) c.loop-by_kind.invariant.0 asked)
+    (few _ _ _ _ _ _ _ _ _ _ c.loop-by_kind.invariant.0, c.loop-by_kind.invariant.0.false_line, work_room a.rule.now a.sizes.now a.shared c.loop-by_kind.by_kind c.loop-by_kind.j a.base c.loop-by_kind.here a.on_true a.on_false (stored_in c.args.is_wide c.loop-by_kind.narrow c.loop-by_kind.wide) c.loop-by_kind.invariant.0 asked)
 
 pub shape_of-narrow-then-has-by_kind : goal.shape_of-narrow-then-has-by_kind
 unfolding word_for fields_for
 shape_of-narrow-then-has-by_kind t c =
-    let a = (args_of t c).args in
+    let a = c.args in
     let asked = asked_as _ _ c.loop-by_kind.by_kind _ c.has.ensures c.if-has-by_kind.true in
-    (put_lengths a.is_wide _ _ a.narrow.now a.wide.now _ _ (c.loop-by_kind.invariant.2 _ _ (work_code_lem a.rule.now a.sizes.now a.shared c.loop-by_kind.by_kind c.loop-by_kind.j a.base c.loop-by_kind.here a.on_true a.on_false (output_of t c) c.loop-by_kind.invariant.0 asked a.is_wide c.loop-by_kind.narrow c.loop-by_kind.wide _ _ (facts_of c.loop-by_kind.y) _ c.encode-branch.ensures c.put_leaf.ensures))).0
+    (put_lengths a.is_wide _ _ a.narrow.now a.wide.now _ _ (c.loop-by_kind.invariant.2 _ _ (work_code_lem a.rule.now a.sizes.now a.shared c.loop-by_kind.by_kind c.loop-by_kind.j a.base c.loop-by_kind.here a.on_true a.on_false (stored_in c.args.is_wide c.loop-by_kind.narrow c.loop-by_kind.wide) c.loop-by_kind.invariant.0 asked a.is_wide c.loop-by_kind.narrow c.loop-by_kind.wide _ _ (facts_of c.loop-by_kind.y) _ c.encode-branch.ensures c.put_leaf.ensures))).0
 
 pub shape_of-wide-then-has-by_kind : goal.shape_of-wide-then-has-by_kind
 unfolding word_for fields_for
 shape_of-wide-then-has-by_kind t c =
-    let a = (args_of t c).args in
+    let a = c.args in
     let asked = asked_as _ _ c.loop-by_kind.by_kind _ c.has.ensures c.if-has-by_kind.true in
-    (put_lengths a.is_wide _ _ a.narrow.now a.wide.now _ _ (c.loop-by_kind.invariant.2 _ _ (work_code_lem a.rule.now a.sizes.now a.shared c.loop-by_kind.by_kind c.loop-by_kind.j a.base c.loop-by_kind.here a.on_true a.on_false (output_of t c) c.loop-by_kind.invariant.0 asked a.is_wide c.loop-by_kind.narrow c.loop-by_kind.wide _ _ (facts_of c.loop-by_kind.y) _ c.encode-branch.ensures c.put_leaf.ensures))).1
+    (put_lengths a.is_wide _ _ a.narrow.now a.wide.now _ _ (c.loop-by_kind.invariant.2 _ _ (work_code_lem a.rule.now a.sizes.now a.shared c.loop-by_kind.by_kind c.loop-by_kind.j a.base c.loop-by_kind.here a.on_true a.on_false (stored_in c.args.is_wide c.loop-by_kind.narrow c.loop-by_kind.wide) c.loop-by_kind.invariant.0 asked a.is_wide c.loop-by_kind.narrow c.loop-by_kind.wide _ _ (facts_of c.loop-by_kind.y) _ c.encode-branch.ensures c.put_leaf.ensures))).1
 
 pub returns-then-has-by_kind : goal.returns-then-has-by_kind
 unfolding word_for fields_for
 returns-then-has-by_kind t c =
-    let a = (args_of t c).args in
+    let a = c.args in
     let asked = asked_as _ _ c.loop-by_kind.by_kind _ c.has.ensures c.if-has-by_kind.true in
-    c.loop-by_kind.invariant.2 _ _ (work_code_lem a.rule.now a.sizes.now a.shared c.loop-by_kind.by_kind c.loop-by_kind.j a.base c.loop-by_kind.here a.on_true a.on_false (output_of t c) c.loop-by_kind.invariant.0 asked a.is_wide c.loop-by_kind.narrow c.loop-by_kind.wide _ _ (facts_of c.loop-by_kind.y) _ c.encode-branch.ensures c.put_leaf.ensures)
+    c.loop-by_kind.invariant.2 _ _ (work_code_lem a.rule.now a.sizes.now a.shared c.loop-by_kind.by_kind c.loop-by_kind.j a.base c.loop-by_kind.here a.on_true a.on_false (stored_in c.args.is_wide c.loop-by_kind.narrow c.loop-by_kind.wide) c.loop-by_kind.invariant.0 asked a.is_wide c.loop-by_kind.narrow c.loop-by_kind.wide _ _ (facts_of c.loop-by_kind.y) _ c.encode-branch.ensures c.put_leaf.ensures)
 
 pub offset_bounds-rule-j : goal.offset_bounds-rule-j
-offset_bounds-rule-j t c = let f = small t c in omega arith
+offset_bounds-rule-j t c = let f = few _ _ _ _ _ _ _ _ _ _ c.loop-by_kind.invariant.0 in omega arith
 
 pub bounds-rule-j : goal.bounds-rule-j
 bounds-rule-j t c = c.loop-by_kind.invariant.0.is_node
 
 pub offset_bounds-sizes-left : goal.offset_bounds-sizes-left
-offset_bounds-sizes-left t c = let h = (arm t (c)).operand in omega arith
+offset_bounds-sizes-left t c = let h = (implied _ _ _ _ _ _ _ _ _ _ c.loop-by_kind.invariant.0 (asked_as _ _ c.loop-by_kind.by_kind _ c.has.ensures c.if-has-by_kind.false) c.in-Implies.left c.in-Implies.right
+    (node_at_lem c.args.rule.now c.loop-by_kind.j ∙ sym c.read_node-node.ensures.node ∙ ap node_read c.in-Implies.is)).operand in omega arith
 
 pub bounds-sizes-left : goal.bounds-sizes-left
-bounds-sizes-left t c = let h = (arm t (c)).operand in omega arith
+bounds-sizes-left t c = let h = (implied _ _ _ _ _ _ _ _ _ _ c.loop-by_kind.invariant.0 (asked_as _ _ c.loop-by_kind.by_kind _ c.has.ensures c.if-has-by_kind.false) c.in-Implies.left c.in-Implies.right
+    (node_at_lem c.args.rule.now c.loop-by_kind.j ∙ sym c.read_node-node.ensures.node ∙ ap node_read c.in-Implies.is)).operand in omega arith
 
 pub overflow_cast-then : goal.overflow_cast-then
-overflow_cast-then t c = let h = (arm t c).inside in omega arith
+overflow_cast-then t c = let h = (implied _ _ _ _ _ _ _ _ _ _ c.loop-by_kind.invariant.0 (asked_as _ _ c.loop-by_kind.by_kind _ c.has.ensures c.if-has-by_kind.false) c.in-Implies.left c.in-Implies.right
+    (node_at_lem c.args.rule.now c.loop-by_kind.j ∙ sym c.read_node-node.ensures.node ∙ ap node_read c.in-Implies.is)).inside in omega arith
 
 pub overflow_add-then : goal.overflow_add-then
-overflow_add-then t c = let h = (arm t c).inside in omega arith
+overflow_add-then t c = let h = (implied _ _ _ _ _ _ _ _ _ _ c.loop-by_kind.invariant.0 (asked_as _ _ c.loop-by_kind.by_kind _ c.has.ensures c.if-has-by_kind.false) c.in-Implies.left c.in-Implies.right
+    (node_at_lem c.args.rule.now c.loop-by_kind.j ∙ sym c.read_node-node.ensures.node ∙ ap node_read c.in-Implies.is)).inside in omega arith
 
 pub put_decision-requires : goal.put_decision-requires
-put_decision-requires t c = let i = arm t c in let l = i.lower.0 in let b = c.loop-by_kind.invariant.1 in (falls_to _ _ _ c.decreases (omega arith), i.left)
+put_decision-requires t c = let i = implied _ _ _ _ _ _ _ _ _ _ c.loop-by_kind.invariant.0 (asked_as _ _ c.loop-by_kind.by_kind _ c.has.ensures c.if-has-by_kind.false) c.in-Implies.left c.in-Implies.right
+    (node_at_lem c.args.rule.now c.loop-by_kind.j ∙ sym c.read_node-node.ensures.node ∙ ap node_read c.in-Implies.is) in let l = i.lower.0 in let b = c.loop-by_kind.invariant.1 in (falls_to _ _ _ c.decreases (omega arith), i.left)
 
 pub learn_value-y-requires : goal.learn_value-y-requires
-learn_value-y-requires t c = (arm t c).operand
+learn_value-y-requires t c = (implied _ _ _ _ _ _ _ _ _ _ c.loop-by_kind.invariant.0 (asked_as _ _ c.loop-by_kind.by_kind _ c.has.ensures c.if-has-by_kind.false) c.in-Implies.left c.in-Implies.right
+    (node_at_lem c.args.rule.now c.loop-by_kind.j ∙ sym c.read_node-node.ensures.node ∙ ap node_read c.in-Implies.is)).operand
 
 pub loop-by_kind-smaller : goal.loop-by_kind-smaller
-loop-by_kind-smaller t c = (arm t c).lower.1
+loop-by_kind-smaller t c = (implied _ _ _ _ _ _ _ _ _ _ c.loop-by_kind.invariant.0 (asked_as _ _ c.loop-by_kind.by_kind _ c.has.ensures c.if-has-by_kind.false) c.in-Implies.left c.in-Implies.right
+    (node_at_lem c.args.rule.now c.loop-by_kind.j ∙ sym c.read_node-node.ensures.node ∙ ap node_read c.in-Implies.is)).lower.1
 
 pub loop-by_kind-preserved : goal.loop-by_kind-preserved
 loop-by_kind-preserved t c =
-    let g = (args_of t c).args in
-    let i = arm t c in
+    let g = c.args in
+    let i = implied _ _ _ _ _ _ _ _ _ _ c.loop-by_kind.invariant.0 (asked_as _ _ c.loop-by_kind.by_kind _ c.has.ensures c.if-has-by_kind.false) c.in-Implies.left c.in-Implies.right
+    (node_at_lem c.args.rule.now c.loop-by_kind.j ∙ sym c.read_node-node.ensures.node ∙ ap node_read c.in-Implies.is) in
     let low = i.lower.1 in
     let most = c.loop-by_kind.invariant.1 in
     let u = table_in g.rule.now in
-    let l = left_of t c in
-    let r = right_of t c in
+    let l = c.in-Implies.left in
+    let r = c.in-Implies.right in
     let n = get_or g.sizes.now l 0 in
     let place = c.loop-by_kind.here in
     let at = place - g.base in
@@ -171,32 +129,32 @@ overflow_sub-here-in_default t c = c.loop-by_kind.invariant.0.from_base
 
 pub put_simple-requires : goal.put_simple-requires
 put_simple-requires t c =
-    let a = (args_of t c).args in
+    let a = c.args in
     let asked = asked_as _ _ c.loop-by_kind.by_kind _ c.has.ensures c.if-has-by_kind.false in
     let is = node_at_lem a.rule.now c.loop-by_kind.j ∙ sym c.read_node-node.ensures.node in
-    let other = rest_not_implies c.read_node-node.result c.in_default.in_default-own.keys2 in
-    (c.read_node-node.ensures.small, other, small t c, c.loop-by_kind.invariant.0.true_line, c.loop-by_kind.invariant.0.false_line, simple_room a.rule.now a.sizes.now a.shared c.loop-by_kind.by_kind c.loop-by_kind.j a.base c.loop-by_kind.here a.on_true a.on_false (output_of t c) c.loop-by_kind.invariant.0 asked _ is other)
+    let other = rest_not_implies c.read_node-node.result c.in_default.not-Implies in
+    (c.read_node-node.ensures.small, other, few _ _ _ _ _ _ _ _ _ _ c.loop-by_kind.invariant.0, c.loop-by_kind.invariant.0.true_line, c.loop-by_kind.invariant.0.false_line, simple_room a.rule.now a.sizes.now a.shared c.loop-by_kind.by_kind c.loop-by_kind.j a.base c.loop-by_kind.here a.on_true a.on_false (stored_in c.args.is_wide c.loop-by_kind.narrow c.loop-by_kind.wide) c.loop-by_kind.invariant.0 asked _ is other)
 
 pub shape_of-narrow-in_default : goal.shape_of-narrow-in_default
 shape_of-narrow-in_default t c =
-    let a = (args_of t c).args in
+    let a = c.args in
     let asked = asked_as _ _ c.loop-by_kind.by_kind _ c.has.ensures c.if-has-by_kind.false in
     let is = node_at_lem a.rule.now c.loop-by_kind.j ∙ sym c.read_node-node.ensures.node in
     (put_lengths a.is_wide _ _ a.narrow.now a.wide.now _ _ (c.loop-by_kind.invariant.2 _ _ (written_as a.is_wide (c.loop-by_kind.here - a.base) _ _ c.loop-by_kind.narrow c.loop-by_kind.wide _ _
-    (simple_code a.rule.now a.sizes.now a.shared c.loop-by_kind.by_kind c.loop-by_kind.j a.base c.loop-by_kind.here a.on_true a.on_false (output_of t c) c.loop-by_kind.invariant.0 asked _ is (facts_of c.loop-by_kind.y)) (c.put_simple.ensures _ _ _)))).0
+    (simple_code a.rule.now a.sizes.now a.shared c.loop-by_kind.by_kind c.loop-by_kind.j a.base c.loop-by_kind.here a.on_true a.on_false (stored_in c.args.is_wide c.loop-by_kind.narrow c.loop-by_kind.wide) c.loop-by_kind.invariant.0 asked _ is (facts_of c.loop-by_kind.y)) (c.put_simple.ensures _ _ _)))).0
 
 pub shape_of-wide-in_default : goal.shape_of-wide-in_default
 shape_of-wide-in_default t c =
-    let a = (args_of t c).args in
+    let a = c.args in
     let asked = asked_as _ _ c.loop-by_kind.by_kind _ c.has.ensures c.if-has-by_kind.false in
     let is = node_at_lem a.rule.now c.loop-by_kind.j ∙ sym c.read_node-node.ensures.node in
     (put_lengths a.is_wide _ _ a.narrow.now a.wide.now _ _ (c.loop-by_kind.invariant.2 _ _ (written_as a.is_wide (c.loop-by_kind.here - a.base) _ _ c.loop-by_kind.narrow c.loop-by_kind.wide _ _
-    (simple_code a.rule.now a.sizes.now a.shared c.loop-by_kind.by_kind c.loop-by_kind.j a.base c.loop-by_kind.here a.on_true a.on_false (output_of t c) c.loop-by_kind.invariant.0 asked _ is (facts_of c.loop-by_kind.y)) (c.put_simple.ensures _ _ _)))).1
+    (simple_code a.rule.now a.sizes.now a.shared c.loop-by_kind.by_kind c.loop-by_kind.j a.base c.loop-by_kind.here a.on_true a.on_false (stored_in c.args.is_wide c.loop-by_kind.narrow c.loop-by_kind.wide) c.loop-by_kind.invariant.0 asked _ is (facts_of c.loop-by_kind.y)) (c.put_simple.ensures _ _ _)))).1
 
 pub returns-in_default : goal.returns-in_default
 returns-in_default t c =
-    let a = (args_of t c).args in
+    let a = c.args in
     let asked = asked_as _ _ c.loop-by_kind.by_kind _ c.has.ensures c.if-has-by_kind.false in
     let is = node_at_lem a.rule.now c.loop-by_kind.j ∙ sym c.read_node-node.ensures.node in
     c.loop-by_kind.invariant.2 _ _ (written_as a.is_wide (c.loop-by_kind.here - a.base) _ _ c.loop-by_kind.narrow c.loop-by_kind.wide _ _
-    (simple_code a.rule.now a.sizes.now a.shared c.loop-by_kind.by_kind c.loop-by_kind.j a.base c.loop-by_kind.here a.on_true a.on_false (output_of t c) c.loop-by_kind.invariant.0 asked _ is (facts_of c.loop-by_kind.y)) (c.put_simple.ensures _ _ _))
+    (simple_code a.rule.now a.sizes.now a.shared c.loop-by_kind.by_kind c.loop-by_kind.j a.base c.loop-by_kind.here a.on_true a.on_false (stored_in c.args.is_wide c.loop-by_kind.narrow c.loop-by_kind.wide) c.loop-by_kind.invariant.0 asked _ is (facts_of c.loop-by_kind.y)) (c.put_simple.ensures _ _ _))

@@ -23,3 +23,11 @@ use Rattle.weaver.proofs.decision.+put_decision.Given as goal
 
 abbrev pub decreases-put_decision : goal.decreases-put_decision
 decreases-put_decision l = l.k
+
+abbrev pub invariant-loop-by_kind : goal.invariant-loop-by_kind
+invariant-loop-by_kind l =
+    Deciding l.rule l.sizes l.shared l.by_kind l.j l.base l.here l.on_true l.on_false (stored_in l.is_wide l.narrow l.wide) × (l.j ≤ l.k)
+    × Completes l.is_wide (table_in l.rule) l.base l.on_true l.on_false l.own l.k l.place (facts_of l.initial.y) l.initial.narrow l.initial.wide l.by_kind l.j l.here (facts_of l.y) l.narrow l.wide
+
+abbrev pub decreases-loop-by_kind : goal.decreases-loop-by_kind
+decreases-loop-by_kind l = l.j

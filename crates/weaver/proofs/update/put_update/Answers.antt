@@ -32,6 +32,6 @@ returns-in_default c = let a = c.args in
     let t = table_in a.rule.now in
     let F = facts_of a.x in
     let at = a.place - a.base in
-    let n = no_code t _ a.k a.place F (rest_not_past c.read_node-node.result c.in_default.in_default-own.keys3) in
+    let n = no_code t _ a.k a.place F (rest_not_past c.read_node-node.result c.in_default.not-Since c.in_default.not-WeakPrevious) in
     subst (λ y. (0 ≡ update_size t y) × Written a.is_wide at (update t y a.k a.place F) a.narrow.now a.wide.now a.narrow.now a.wide.now) (sym (node_at_lem a.rule.now a.k ∙ sym c.read_node-node.ensures.node))
     (n.0, written_as a.is_wide at _ _ a.narrow.now a.wide.now a.narrow.now a.wide.now n.1 (written_none a.is_wide at a.narrow.now a.wide.now))
