@@ -8,7 +8,7 @@
 // ends a block.
 #![tactic(auto)]
 
-ghost use Rattle.std.specs.Prelude.{◌<◌, ◌≤◌, ◌+◌};
+ghost use Rattle.std.specs.Prelude.{◌<◌, ◌≤◌, ◌+◌, IfOk};
 
 use crate::finding::{answer_finding, answer_finding64};
 use crate::moving::{answer_back, answer_up};
@@ -21,6 +21,8 @@ use requests::loading::{load_long, load_numbers, load_words, size_of};
 use requests::printing::{print_answer, print_number, print_numbers, print_refused, say};
 use rule::answer::Verdict;
 use station_requests::request_stations;
+use std::io;
+use std::io::Read;
 use words::word_at;
 
 mod digests;
@@ -31,63 +33,81 @@ mod runs;
 mod texts;
 mod weaving;
 
-fn print_verdict(v: Verdict) {
+fn print_verdict(rt: &impl Print, v: Verdict) -> io::Result<()> {
     match v {
-        Verdict::Refused { question, place } => print_refused(question, place),
+        Verdict::Refused { question, place } => print_refused(rt, question, place),
         Verdict::Breach(index) => {
-            say(b"breach");
-            print_number(index);
-            say(b"\n");
+            say(rt, b"breach")?;
+            print_number(rt, index)?;
+            say(rt, b"\n")
         }
         Verdict::Clean(states) => {
-            say(b"clean");
-            print_number(states);
-            say(b"\n");
+            say(rt, b"clean")?;
+            print_number(rt, states)?;
+            say(rt, b"\n")
         }
     }
 }
 
-fn answer_history(rule: &[u32], history: &[u16], numbers: usize) {
+fn answer_history(
+    rt: &impl Print,
+    rule: &[u32],
+    history: &[u16],
+    numbers: usize,
+) -> io::Result<()> {
     if history.len() < numbers {
-        return;
+        return Ok(());
     }
     let h = &history[..numbers];
-    print_answer(rule::check_rule(rule));
-    print_verdict(rule::verdict(rule, h));
-    print_numbers(b"part", rule::judge(rule, h));
+    print_answer(rt, rule::check_rule(rule))?;
+    print_verdict(rt, rule::verdict(rule, h))?;
+    print_numbers(rt, b"part", rule::judge(rule, h))
 }
 
-fn answer_history64(rule: &[u64], history: &[u16], numbers: usize) {
+fn answer_history64(
+    rt: &impl Print,
+    rule: &[u64],
+    history: &[u16],
+    numbers: usize,
+) -> io::Result<()> {
     if history.len() < numbers {
-        return;
+        return Ok(());
     }
     let h = &history[..numbers];
-    print_answer(rule::check_rule64(rule));
-    print_verdict(rule::verdict64(rule, h));
-    print_numbers(b"part", rule::judge64(rule, h));
+    print_answer(rt, rule::check_rule64(rule))?;
+    print_verdict(rt, rule::verdict64(rule, h))?;
+    print_numbers(rt, b"part", rule::judge64(rule, h))
 }
 
-fn answer_script(rule: &[u32], script: &[u32]) {
-    say(b"bare ");
-    print_answer(script::check_bare(rule, script));
-    say(b"script ");
-    print_answer(checker::check_script(rule, script));
+fn answer_script(rt: &impl Print, rule: &[u32], script: &[u32]) -> io::Result<()> {
+    say(rt, b"bare ")?;
+    print_answer(rt, script::check_bare(rule, script))?;
+    say(rt, b"script ")?;
+    print_answer(rt, checker::check_script(rule, script))
 }
 
 // What the entry points answer on the first nodes of the buffer and the `count` words from `at` on.
-fn answer(s: &[u8], kind: u32, rule: &[u32], nodes: usize, at: usize, count: usize)
+fn answer(
+    rt: &impl Print,
+    s: &[u8],
+    kind: u32,
+    rule: &[u32],
+    nodes: usize,
+    at: usize,
+    count: usize,
+) -> io::Result<()>
     requires { (at ≤ 20000) × (count ≤ 16384) }
 {
     if rule.len() < nodes {
-        return;
+        return Ok(());
     }
     let r = &rule[..nodes];
     if kind == 1 {
         let mut history = [0u16; 16384];
         load_numbers(s, at, count, &mut history);
-        answer_history(r, &history, count);
+        answer_history(rt, r, &history, count)
     } else if kind == 25 {
-        answer_pair(s, r, at, count);
+        answer_pair(rt, s, r, at, count)
     } else {
         let mut script = [0u32; 16384];
         load_words(s, at, count, &mut script);
@@ -95,28 +115,35 @@ fn answer(s: &[u8], kind: u32, rule: &[u32], nodes: usize, at: usize, count: usi
         let after = at + count;
         let length = word_at(s, after) as usize;
         if kind == 2 {
-            answer_script(r, w);
+            answer_script(rt, r, w)
         } else if kind == 5 {
-            answer_weaving(r, w, length);
+            answer_weaving(rt, r, w, length)
         } else if kind == 10 {
-            answer_finding(r, w, length);
+            answer_finding(rt, r, w, length)
         } else if 21 <= kind {
-            answer_up(kind, r, w, length);
+            answer_up(rt, kind, r, w, length)
         } else {
             let none = [0u64; 1];
-            answer_machine(s, kind, r, w, &none, &none, after);
+            answer_machine(rt, s, kind, r, w, &none, &none, after)
         }
     }
 }
 
 // The same of the second form with words of 32 bits: a history, a bare script, instructions without facts.
-fn answer_short(s: &[u8], kind: u32, r: &[u64], at: usize, count: usize)
+fn answer_short(
+    rt: &impl Print,
+    s: &[u8],
+    kind: u32,
+    r: &[u64],
+    at: usize,
+    count: usize,
+) -> io::Result<()>
     requires { (at ≤ 20000) × (count ≤ 16384) }
 {
     if kind == 11 {
         let mut history = [0u16; 16384];
         load_numbers(s, at, count, &mut history);
-        answer_history64(r, &history, count);
+        answer_history64(rt, r, &history, count)
     } else {
         let mut script = [0u32; 16384];
         load_words(s, at, count, &mut script);
@@ -124,36 +151,42 @@ fn answer_short(s: &[u8], kind: u32, r: &[u64], at: usize, count: usize)
         let after = at + count;
         let length = word_at(s, after) as usize;
         if kind == 15 {
-            answer_weaving64(r, w, length);
+            answer_weaving64(rt, r, w, length)
         } else if kind == 20 {
-            answer_finding64(r, w, length);
+            answer_finding64(rt, r, w, length)
         } else {
             let none = [0u32; 1];
-            answer_machine(s, kind, &none, w, r, r, after);
+            answer_machine(rt, s, kind, &none, w, r, r, after)
         }
     }
 }
 
 // And with words of 64 bits: a script.
-fn answer_long(s: &[u8], kind: u32, r: &[u64], at: usize, count: usize)
+fn answer_long(
+    rt: &impl Print,
+    s: &[u8],
+    kind: u32,
+    r: &[u64],
+    at: usize,
+    count: usize,
+) -> io::Result<()>
     requires { (at ≤ 20000) × (count ≤ 16384) }
 {
     if kind == 26 {
-        answer_pair64(s, r, at, count);
-        return;
+        return answer_pair64(rt, s, r, at, count);
     }
     let mut script = [0u64; 16384];
     load_long(s, at, count, &mut script);
     let w = &script[..count];
     let after = at + 2 * count;
     if kind == 12 {
-        say(b"script ");
-        print_answer(checker::check_script64(r, w));
+        say(rt, b"script ")?;
+        print_answer(rt, checker::check_script64(r, w))
     } else if 21 <= kind {
-        answer_back(kind, r, w, word_at(s, after) as usize);
+        answer_back(rt, kind, r, w, word_at(s, after) as usize)
     } else {
         let none = [0u32; 1];
-        answer_machine(s, kind, &none, &none, r, w, after);
+        answer_machine(rt, s, kind, &none, &none, r, w, after)
     }
 }
 
@@ -167,80 +200,81 @@ fn has_long_words(kind: u32) -> bool {
 }
 
 // The request that starts at word `at`, and where the next one starts.
-fn request(s: &[u8], at: usize) -> usize
+fn request(rt: &impl Print, s: &[u8], at: usize) -> io::Result<usize>
     requires { at < 16384 }
-    ensures { at < result }
+    ensures { IfOk result (λ next. at < next) }
 {
     let kind = word_at(s, at);
     if kind == 0 {
-        return at + 1;
+        return Ok(at + 1);
     }
     if (7 <= kind) & (kind <= 9) | (kind == 17) | (kind == 31) {
-        return request_text(s, kind, at);
+        return request_text(rt, s, kind, at);
     }
     if (kind == 27) | (kind == 28) {
-        return request_stations(s, kind, at);
+        return request_stations(rt, s, kind, at);
     }
     if (kind == 29) | (kind == 30) {
-        return request_limits(s, kind, at);
+        return request_limits(rt, s, kind, at);
     }
     let nodes = word_at(s, at + 1) as usize;
     if 80 < nodes {
-        return 100000;
+        return Ok(100000);
     }
     let start = at + 3 + size_of(nodes, has_long_nodes(kind));
     let count = word_at(s, start - 1) as usize;
     if 16384 < count {
-        return 100000;
+        return Ok(100000);
     }
     if has_long_nodes(kind) {
         let mut rule = [0u64; 80];
         load_long(s, at + 2, nodes, &mut rule);
         if has_long_words(kind) {
-            answer_long(s, kind, &rule[..nodes], start, count);
+            answer_long(rt, s, kind, &rule[..nodes], start, count)?;
         } else {
-            answer_short(s, kind, &rule[..nodes], start, count);
+            answer_short(rt, s, kind, &rule[..nodes], start, count)?;
         }
     } else {
         let mut rule = [0u32; 80];
         load_words(s, at + 2, nodes, &mut rule);
-        answer(s, kind, &rule, nodes, start, count);
+        answer(rt, s, kind, &rule, nodes, start, count)?;
     }
     let next = start + size_of(count, has_long_words(kind));
     if (kind < 3) | (kind == 11) | (kind == 12) | (25 <= kind) {
-        return next;
+        return Ok(next);
     }
     if (kind == 5) | (kind == 10) | (kind == 15) | (20 <= kind) {
-        return next + 1;
+        return Ok(next + 1);
     }
     let inputs = word_at(s, next) as usize;
     if 16384 < inputs {
-        return 100000;
+        return Ok(100000);
     }
-    next + 4 + inputs
+    Ok(next + 4 + inputs)
 }
 
 // Every request in the bytes, one after another.
-fn requests_in(s: &[u8]) {
+fn requests_in(rt: &impl Print, s: &[u8]) -> io::Result<()> {
     let mut at = 0;
     while at < s.len() / 4 {
         if 16384 <= at {
-            return;
+            return Ok(());
         }
-        at = request(s, at);
+        at = request(rt, s, at)?;
     }
+    Ok(())
 }
 
 // What the input holds comes in blocks of 65,536 bytes, and no request goes over the end of one.
-fn main() {
-    let mut bytes = io::large_buffer();
-    let mut blocks: usize = 0;
-    while blocks < 1000 {
-        let n = io::read_full(0, &mut bytes);
-        if n == 0 {
-            return;
+fn main(rt: HostRuntime) -> io::Result<()> {
+    let mut bytes = Vec::new(rt.alloc());
+    for _ in 0..1000 {
+        bytes.clear();
+        rt.stdin().take(65536).read_to_end(&mut bytes)?;
+        if bytes.is_empty() {
+            return Ok(());
         }
-        requests_in(&bytes[..n]);
-        blocks += 1;
+        requests_in(&rt, &bytes)?;
     }
+    Ok(())
 }

@@ -8,6 +8,7 @@ use requests::loading::{load_long, load_words};
 use requests::printing::{print_answer, say};
 use rule::answer::Answer;
 use rule::stored::{count_words, put_word, word_at};
+use std::io;
 
 // Word i of a union: the first of a line's eight is its instruction, the others are sets of facts.
 fn united(i: usize, word: u64, other: u64) -> u64
@@ -28,12 +29,10 @@ fn unite(
     ensures { stored_in is_wide narrow.new wide.new ≡ union_words (stored_in is_wide narrow.old wide.old) (stored_in is_wide other_narrow.now other_wide.now) }
 {
     let count = count_words(other_narrow, other_wide, is_wide);
-    let mut i = 0;
-    while i < count {
+    for i in 0..count {
         let word = word_at(narrow, wide, is_wide, i);
         let other = word_at(other_narrow, other_wide, is_wide, i);
         put_word(united(i, word, other), i, narrow, wide, is_wide);
-        i += 1;
     }
 }
 
@@ -60,6 +59,7 @@ fn is_passed(a: Answer) -> bool {
 
 // What the checker says of each, and of their union, if both are accepted; then the union.
 fn answer_both(
+    rt: &impl Print,
     rule: &[u32],
     rule64: &[u64],
     narrow: &mut [u32],
@@ -67,29 +67,36 @@ fn answer_both(
     other_narrow: &[u32],
     other_wide: &[u64],
     is_wide: bool,
-)
+) -> io::Result<()>
     requires { length (stored_in is_wide narrow.old wide.old) ≡ length (stored_in is_wide other_narrow.now other_wide.now) }
 {
     let first = check_in(rule, narrow, rule64, wide, is_wide);
     let second = check_in(rule, other_narrow, rule64, other_wide, is_wide);
-    say(b"first ");
-    print_answer(first);
-    say(b"second ");
-    print_answer(second);
+    say(rt, b"first ")?;
+    print_answer(rt, first)?;
+    say(rt, b"second ")?;
+    print_answer(rt, second)?;
     if is_passed(first) & is_passed(second) {
         unite(narrow, wide, other_narrow, other_wide, is_wide);
-        say(b"union ");
-        print_answer(check_in(rule, narrow, rule64, wide, is_wide));
+        say(rt, b"union ")?;
+        print_answer(rt, check_in(rule, narrow, rule64, wide, is_wide))?;
         if is_wide {
-            print_lent64(&wide[..]);
+            print_lent64(rt, wide)?;
         } else {
-            print_lent(&narrow[..]);
+            print_lent(rt, narrow)?;
         }
     }
+    Ok(())
 }
 
 // The first half of the words from `at` on, and the second. What is lent of the other form is not looked at.
-pub(crate) fn answer_pair(s: &[u8], rule: &[u32], at: usize, count: usize)
+pub(crate) fn answer_pair(
+    rt: &impl Print,
+    s: &[u8],
+    rule: &[u32],
+    at: usize,
+    count: usize,
+) -> io::Result<()>
     requires { (at ≤ 20000) × (count ≤ 16384) }
 {
     let n = count / 2;
@@ -100,6 +107,7 @@ pub(crate) fn answer_pair(s: &[u8], rule: &[u32], at: usize, count: usize)
     let mut none = [0u64; 1];
     let nothing = [0u64; 1];
     answer_both(
+        rt,
         rule,
         &nothing,
         &mut first[..n],
@@ -107,10 +115,16 @@ pub(crate) fn answer_pair(s: &[u8], rule: &[u32], at: usize, count: usize)
         &second[..n],
         &nothing,
         false,
-    );
+    )
 }
 
-pub(crate) fn answer_pair64(s: &[u8], rule: &[u64], at: usize, count: usize)
+pub(crate) fn answer_pair64(
+    rt: &impl Print,
+    s: &[u8],
+    rule: &[u64],
+    at: usize,
+    count: usize,
+) -> io::Result<()>
     requires { (at ≤ 20000) × (count ≤ 16384) }
 {
     let n = count / 2;
@@ -121,6 +135,7 @@ pub(crate) fn answer_pair64(s: &[u8], rule: &[u64], at: usize, count: usize)
     let mut none = [0u32; 1];
     let nothing = [0u32; 1];
     answer_both(
+        rt,
         &nothing,
         rule,
         &mut none,
@@ -128,5 +143,5 @@ pub(crate) fn answer_pair64(s: &[u8], rule: &[u64], at: usize, count: usize)
         &nothing,
         &second[..n],
         true,
-    );
+    )
 }

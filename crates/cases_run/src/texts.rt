@@ -1,51 +1,54 @@
 // Requests of kinds 7 to 9, 17 and 31, which are bytes: kind, a number, byte count, bytes, which fill whole words. Kinds 7 and 17 read them as a
 // rule typed as text into an output of that many words, of the old form and of the second; kind 8 is an input of the compile program; kind 9
 // reads the text with each of its bytes changed to every byte; kind 31 is an input of the judge_limits program.
-ghost use Rattle.std.specs.Prelude.{◌≡◌, ◌<◌, length};
+ghost use Rattle.std.specs.Prelude.{◌≡◌, ◌<◌, IfOk, length};
 
 use crate::digests::{digest, print_lent64};
 use print::add_bytes;
 use requests::printing::{print_counted, print_named, print_words, say};
 use rule::answer::Counted;
+use std::io;
 use text::{read_text, read_text64};
 use words::word_at;
 
 // The answer, and the lent output afterwards.
-fn answer_lent(text: &[u8], out: &mut [u32]) {
-    print_counted(b"nodes", read_text(text, out));
-    print_words(b"words", &out[..]);
+fn answer_lent(rt: &impl Print, text: &[u8], out: &mut [u32]) -> io::Result<()> {
+    print_counted(rt, b"nodes", read_text(text, out))?;
+    print_words(rt, b"words", out)
 }
 
 // An output of that many words is lent. It has 4,294,967,295 everywhere, which no node is.
-fn answer_text(text: &[u8], length: usize) {
+fn answer_text(rt: &impl Print, text: &[u8], length: usize) -> io::Result<()> {
     if length <= 64 {
         let mut out = [4294967295u32; 64];
-        answer_lent(text, &mut out[..length]);
+        answer_lent(rt, text, &mut out[..length])?;
     }
+    Ok(())
 }
 
-fn answer_lent64(text: &[u8], out: &mut [u64]) {
-    print_counted(b"nodes", read_text64(text, out));
-    print_lent64(&out[..]);
+fn answer_lent64(rt: &impl Print, text: &[u8], out: &mut [u64]) -> io::Result<()> {
+    print_counted(rt, b"nodes", read_text64(text, out))?;
+    print_lent64(rt, out)
 }
 
-fn answer_text64(text: &[u8], length: usize) {
+fn answer_text64(rt: &impl Print, text: &[u8], length: usize) -> io::Result<()> {
     if length <= 80 {
         let mut out = [18446744073709551615u64; 80];
-        answer_lent64(text, &mut out[..length]);
+        answer_lent64(rt, text, &mut out[..length])?;
     }
+    Ok(())
 }
 
-fn answer_compile(bytes: &[u8]) {
+fn answer_compile(rt: &impl Print, bytes: &[u8]) -> io::Result<()> {
     let mut text = [0u8; 512];
     let n = report::compile(bytes, &mut text);
-    say(&text[..n]);
+    say(rt, &text[..n])
 }
 
-fn answer_file(bytes: &[u8]) {
+fn answer_file(rt: &impl Print, bytes: &[u8]) -> io::Result<()> {
     let mut text = [0u8; 74013];
     let n = picture::judge_file(bytes, &mut text);
-    say(&text[..n]);
+    say(rt, &text[..n])
 }
 
 // A place or a count, which is below 65,536 here.
@@ -78,11 +81,9 @@ fn digest_place(h: u64, text: &mut [u8], i: usize) -> u64
 {
     let own = text[i];
     let mut d = h;
-    let mut b: usize = 0;
-    while b < 256 {
-        text[i] = b as u8;
-        d = digest_text(d, &text[..]);
-        b += 1;
+    for b in 0..=u8::MAX {
+        text[i] = b;
+        d = digest_text(d, text);
     }
     text[i] = own;
     d
@@ -93,51 +94,50 @@ fn digest_spoiled(text: &mut [u8]) -> u64
     ensures { result < 4294967291 }
 {
     let mut d: u64 = 1;
-    let mut i: usize = 0;
-    while i < text.len() {
+    for i in 0..text.len() {
         d = digest_place(d, text, i);
-        i += 1;
     }
     d
 }
 
-fn answer_spoiled(text: &[u8]) {
+fn answer_spoiled(rt: &impl Print, text: &[u8]) -> io::Result<()> {
     if text.len() <= 64 {
         let mut own = [0u8; 64];
         add_bytes(text, 0, &mut own);
-        print_named(b"digest", digest_spoiled(&mut own[..text.len()]));
+        print_named(rt, b"digest", digest_spoiled(&mut own[..text.len()]))?;
     }
+    Ok(())
 }
 
-fn answer(kind: u32, number: usize, bytes: &[u8]) {
+fn answer(rt: &impl Print, kind: u32, number: usize, bytes: &[u8]) -> io::Result<()> {
     if kind == 7 {
-        answer_text(bytes, number);
+        answer_text(rt, bytes, number)
     } else if kind == 17 {
-        answer_text64(bytes, number);
+        answer_text64(rt, bytes, number)
     } else if kind == 8 {
-        answer_compile(bytes);
+        answer_compile(rt, bytes)
     } else if kind == 31 {
-        answer_file(bytes);
+        answer_file(rt, bytes)
     } else {
-        answer_spoiled(bytes);
+        answer_spoiled(rt, bytes)
     }
 }
 
 // The request of this kind that starts at word `at`, and where the next one starts.
-pub(crate) fn request_text(s: &[u8], kind: u32, at: usize) -> usize
+pub(crate) fn request_text(rt: &impl Print, s: &[u8], kind: u32, at: usize) -> io::Result<usize>
     requires { at < 16384 }
-    ensures { at < result }
+    ensures { IfOk result (λ next. at < next) }
 {
     let number = word_at(s, at + 1) as usize;
     let size = word_at(s, at + 2) as usize;
     if 65536 < size {
-        return 100000;
+        return Ok(100000);
     }
     let start = 4 * at + 12;
     let end = start + size;
     if s.len() < end {
-        return 100000;
+        return Ok(100000);
     }
-    answer(kind, number, &s[start..end]);
-    at + 3 + (size + 3) / 4
+    answer(rt, kind, number, &s[start..end])?;
+    Ok(at + 3 + (size + 3) / 4)
 }

@@ -2,7 +2,7 @@
 // high count, highs, the length of the lent output. A lent output has 9 everywhere, which is no answer.
 #![tactic(auto)]
 
-ghost use Rattle.std.specs.Prelude.{◌<◌, ◌≤◌};
+ghost use Rattle.std.specs.Prelude.{◌<◌, ◌≤◌, IfOk};
 
 use limits::{judge, judge64};
 use requests::loading::{
@@ -10,6 +10,7 @@ use requests::loading::{
 };
 use requests::printing::{print_counted, print_number, say};
 use rule::answer::Counted;
+use std::io;
 use words::word_at;
 
 // The count that word `at` is; one out of range is as a count of none.
@@ -25,14 +26,12 @@ fn wide(b: u8) -> usize {
 }
 
 // A name and bytes, on one line.
-fn print_bytes(name: &[u8], bytes: &[u8]) {
-    say(name);
-    let mut i = 0;
-    while i < bytes.len() {
-        print_number(wide(bytes[i]));
-        i += 1;
+fn print_bytes(rt: &impl Print, name: &[u8], bytes: &[u8]) -> io::Result<()> {
+    say(rt, name)?;
+    for b in bytes {
+        print_number(rt, wide(*b))?;
     }
-    say(b"\n");
+    say(rt, b"\n")
 }
 
 // The entry points have a form each, so here it is chosen.
@@ -52,39 +51,50 @@ fn judge_either(
 
 // The answer, and the lent output afterwards.
 fn answer_lent(
+    rt: &impl Print,
     is_wide: bool,
     rule: &[u32],
     rule_wide: &[u64],
     lows: &[u16],
     highs: &[u16],
     out: &mut [u8],
-) {
+) -> io::Result<()> {
     print_counted(
+        rt,
         b"indices",
         judge_either(is_wide, rule, rule_wide, lows, highs, out),
-    );
-    print_bytes(b"bytes", &out[..]);
+    )?;
+    print_bytes(rt, b"bytes", out)
 }
 
 // An output of that many bytes is lent.
 fn answer_limits(
+    rt: &impl Print,
     is_wide: bool,
     rule: &[u32],
     rule_wide: &[u64],
     lows: &[u16],
     highs: &[u16],
     length: usize,
-)
+) -> io::Result<()>
     requires { length ≤ 256 }
 {
     let mut out = [9u8; 256];
-    answer_lent(is_wide, rule, rule_wide, lows, highs, &mut out[..length]);
+    answer_lent(
+        rt,
+        is_wide,
+        rule,
+        rule_wide,
+        lows,
+        highs,
+        &mut out[..length],
+    )
 }
 
 // The request of this kind that starts at word `at`, and where the next one starts.
-pub fn request_limits(s: &[u8], kind: u32, at: usize) -> usize
+pub fn request_limits(rt: &impl Print, s: &[u8], kind: u32, at: usize) -> io::Result<usize>
     requires { at < 16384 }
-    ensures { at < result }
+    ensures { IfOk result (λ next. at < next) }
 {
     let is_wide = kind == 30;
     let nodes = count_at(s, at + 1, 80);
@@ -103,12 +113,13 @@ pub fn request_limits(s: &[u8], kind: u32, at: usize) -> usize
     let length = count_at(s, end, 256);
     let next = end + 1;
     answer_limits(
+        rt,
         is_wide,
         first_words(&rule, nodes),
         first_longs(&rule_wide, nodes),
         first_numbers(&lows, low_count),
         first_numbers(&highs, high_count),
         length,
-    );
-    next
+    )?;
+    Ok(next)
 }

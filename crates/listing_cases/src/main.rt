@@ -2,60 +2,62 @@
 // many bytes it has, and fills whole words; a 0 in place of that word is skipped.
 #![tactic(auto)]
 
-ghost use Rattle.std.specs.Prelude.{◌<◌};
+ghost use Rattle.std.specs.Prelude.{◌<◌, IfOk};
 
-use libc::STDOUT_FILENO;
 use render::listing::list;
+use std::io;
+use std::io::Read;
 use words::word_at;
 
-fn answer(bytes: &[u8]) {
+fn answer(rt: &impl Print, bytes: &[u8]) -> io::Result<()> {
     let mut text = [0u8; 32768];
     let length = list(bytes, &mut text);
-    io::write_all(STDOUT_FILENO, &text[..length]);
+    rt.write_all(&text[..length])
 }
 
 // The input that starts at word `at`, and where the next one starts.
-fn request(s: &[u8], at: usize) -> usize
+fn request(rt: &impl Print, s: &[u8], at: usize) -> io::Result<usize>
     requires { at < 16384 }
-    ensures { at < result }
+    ensures { IfOk result (λ next. at < next) }
 {
     let size = word_at(s, at) as usize;
     if size == 0 {
-        return at + 1;
+        return Ok(at + 1);
     }
     if 65536 < size {
-        return 100000;
+        return Ok(100000);
     }
     let start = 4 * at + 4;
     let end = start + size - 1;
     if s.len() < end {
-        return 100000;
+        return Ok(100000);
     }
-    answer(&s[start..end]);
-    at + 1 + (size + 2) / 4
+    answer(rt, &s[start..end])?;
+    Ok(at + 1 + (size + 2) / 4)
 }
 
 // Every input in the bytes, one after another.
-fn requests_in(s: &[u8]) {
+fn requests_in(rt: &impl Print, s: &[u8]) -> io::Result<()> {
     let mut at = 0;
     while at < s.len() / 4 {
         if 16384 <= at {
-            return;
+            return Ok(());
         }
-        at = request(s, at);
+        at = request(rt, s, at)?;
     }
+    Ok(())
 }
 
 // What the input holds comes in blocks of 65,536 bytes, and no request goes over the end of one.
-fn main() {
-    let mut bytes = io::large_buffer();
-    let mut blocks: usize = 0;
-    while blocks < 1000 {
-        let n = io::read_full(0, &mut bytes);
-        if n == 0 {
-            return;
+fn main(rt: HostRuntime) -> io::Result<()> {
+    let mut bytes = Vec::new(rt.alloc());
+    for _ in 0..1000 {
+        bytes.clear();
+        rt.stdin().take(65536).read_to_end(&mut bytes)?;
+        if bytes.is_empty() {
+            return Ok(());
         }
-        requests_in(&bytes[..n]);
-        blocks += 1;
+        requests_in(&rt, &bytes)?;
     }
+    Ok(())
 }

@@ -8,12 +8,10 @@ pub fn load_words(s: &[u8], at: usize, count: usize, out: &mut [u32])
     requires { (at ≤ 1000000) × (count ≤ 1000000) }
     ensures { length out.new ≡ length out.old }
 {
-    let mut i = 0;
-    while i < count {
+    for i in 0..count {
         if i < out.len() {
             out[i] = word_at(s, at + i);
         }
-        i += 1;
     }
 }
 
@@ -22,12 +20,10 @@ pub fn load_numbers(s: &[u8], at: usize, count: usize, out: &mut [u16])
     requires { (at ≤ 1000000) × (count ≤ 1000000) }
     ensures { length out.new ≡ length out.old }
 {
-    let mut i = 0;
-    while i < count {
+    for i in 0..count {
         if i < out.len() {
             out[i] = (word_at(s, at + i) % 65536) as u16;
         }
-        i += 1;
     }
 }
 
@@ -41,12 +37,10 @@ pub fn load_long(s: &[u8], at: usize, count: usize, out: &mut [u64])
     requires { (at ≤ 1000000) × (count ≤ 1000000) }
     ensures { length out.new ≡ length out.old }
 {
-    let mut i = 0;
-    while i < count {
+    for i in 0..count {
         if i < out.len() {
             out[i] = long_at(s, at + 2 * i);
         }
-        i += 1;
     }
 }
 
@@ -91,10 +85,8 @@ fn half_at(words: &[u64], i: usize) -> u32 {
 pub fn split_words(words: &[u64], out: &mut [u32])
     ensures { length out.new ≡ length out.old }
 {
-    let mut i = 0;
-    while i < out.len() {
-        out[i] = half_at(words, i);
-        i += 1;
+    for (i, half) in out.iter_mut().enumerate() {
+        *half = half_at(words, i);
     }
 }
 

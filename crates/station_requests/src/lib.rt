@@ -3,7 +3,7 @@
 // history. A lent history has 60,000 everywhere, which no register can hold.
 #![tactic(auto)]
 
-ghost use Rattle.std.specs.Prelude.{◌<◌, ◌≤◌};
+ghost use Rattle.std.specs.Prelude.{◌<◌, ◌≤◌, IfOk};
 
 use machine::Machine;
 use requests::loading::{
@@ -12,6 +12,7 @@ use requests::loading::{
 use requests::printing::{print_named, print_numbers, print_refused, say};
 use requests::states::print_state;
 use stations::{FourStates, StationsAnswer};
+use std::io;
 use words::word_at;
 
 // A station's part of a request: where the nodes, the words and the inputs start, how many of each there are, the length of the lent history,
@@ -104,23 +105,24 @@ fn load_station(
 }
 
 // The answer, and whether they ran.
-fn print_outcome(a: StationsAnswer) -> bool {
+fn print_outcome(rt: &impl Print, a: StationsAnswer) -> io::Result<bool> {
     match a {
         StationsAnswer::Refused { question, place } => {
-            print_refused(question, place);
-            false
+            print_refused(rt, question, place)?;
+            Ok(false)
         }
         StationsAnswer::Ran { turns, left } => {
-            say(b"ran\n");
-            print_named(b"turns", turns);
-            print_named(b"left", left);
-            true
+            say(rt, b"ran\n")?;
+            print_named(rt, b"turns", turns)?;
+            print_named(rt, b"left", left)?;
+            Ok(true)
         }
     }
 }
 
 // A station's state, where it ran, and its history.
 fn print_station(
+    rt: &impl Print,
     has_run: bool,
     m: Machine,
     p: Part,
@@ -128,18 +130,19 @@ fn print_station(
     rule: &[u32; 80],
     rule_wide: &[u64; 80],
     history: &[u16; 160],
-) {
+) -> io::Result<()> {
     if has_run {
         let nodes = p.nodes;
         print_state(
+            rt,
             m,
             first_words(rule, nodes),
             first_longs(rule_wide, nodes),
             is_wide,
-        );
-        print_named(b"ready", if m.readiness.ready { 1 } else { 0 });
+        )?;
+        print_named(rt, b"ready", if m.readiness.ready { 1 } else { 0 })?;
     }
-    print_numbers(b"history", first_numbers(history, p.length));
+    print_numbers(rt, b"history", first_numbers(history, p.length))
 }
 
 // Each station is given as much of its buffers as its part says. The entry points have a form each, so here it is chosen.
@@ -225,7 +228,7 @@ fn run_four(
 
 // What they answer is printed. Of the buffers of the two forms those of the other one stay as they are, and nothing reads them. Where the next
 // request starts is in no block, if a count is out of range; it is later than this one in any case.
-fn answer_stations(s: &[u8], at: usize, is_wide: bool) -> usize
+fn answer_stations(rt: &impl Print, s: &[u8], at: usize, is_wide: bool) -> io::Result<usize>
     requires { at < 16384 }
 {
     let count = word_at(s, at + 1) as usize;
@@ -297,7 +300,7 @@ fn answer_stations(s: &[u8], at: usize, is_wide: bool) -> usize
         &mut inputs3,
     );
     if 16384 < d.next {
-        return d.next;
+        return Ok(d.next);
     }
     let length0 = a.length;
     let length1 = b.length;
@@ -338,26 +341,62 @@ fn answer_stations(s: &[u8], at: usize, is_wide: bool) -> usize
         &mut history3[..length3],
     );
     let outcome = f.answer;
-    let has_run = print_outcome(outcome);
+    let has_run = print_outcome(rt, outcome)?;
     let first = f.first;
-    print_station(has_run, first, a, is_wide, &rule0, &rule_wide0, &history0);
+    print_station(
+        rt,
+        has_run,
+        first,
+        a,
+        is_wide,
+        &rule0,
+        &rule_wide0,
+        &history0,
+    )?;
     let second = f.second;
-    print_station(has_run, second, b, is_wide, &rule1, &rule_wide1, &history1);
+    print_station(
+        rt,
+        has_run,
+        second,
+        b,
+        is_wide,
+        &rule1,
+        &rule_wide1,
+        &history1,
+    )?;
     let third = f.third;
-    print_station(has_run, third, c, is_wide, &rule2, &rule_wide2, &history2);
+    print_station(
+        rt,
+        has_run,
+        third,
+        c,
+        is_wide,
+        &rule2,
+        &rule_wide2,
+        &history2,
+    )?;
     let fourth = f.fourth;
-    print_station(has_run, fourth, d, is_wide, &rule3, &rule_wide3, &history3);
-    d.next
+    print_station(
+        rt,
+        has_run,
+        fourth,
+        d,
+        is_wide,
+        &rule3,
+        &rule_wide3,
+        &history3,
+    )?;
+    Ok(d.next)
 }
 
 // The request of this kind that starts at word `at`, and where the next one starts.
-pub fn request_stations(s: &[u8], kind: u32, at: usize) -> usize
+pub fn request_stations(rt: &impl Print, s: &[u8], kind: u32, at: usize) -> io::Result<usize>
     requires { at < 16384 }
-    ensures { at < result }
+    ensures { IfOk result (λ next. at < next) }
 {
-    let next = answer_stations(s, at, kind == 28);
+    let next = answer_stations(rt, s, at, kind == 28)?;
     if next <= at {
-        return 100000;
+        return Ok(100000);
     }
-    next
+    Ok(next)
 }
