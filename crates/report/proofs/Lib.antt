@@ -1,5 +1,6 @@
 -- What the proofs of the functions cite. No contract cites these files.
 pub mod LastLaws
+pub mod DigitLaws
 pub mod MarkLaws
 pub mod NodeLaws
 pub mod StandLaws

@@ -1,0 +1,17 @@
+-- `report::add_nodes` meets its contract: the nodes before i, one after another. Assumes nothing.
+use Prim.Native.Nat.{◌-◌, ◌*◌, ◌≤◌}
+use lib.ListN.{length}
+use mathlib.Core.Path.{◌≡◌, ap, ◌∙◌}
+use native.Mathlib.Omega.{arith}
+use Rattle.print.specs.Written.{Filled, each_of}
+use Rattle.print.proofs.AddedLaws.{added_as, filled_room, each_start, each_next}
+use Rattle.report.proofs.NodeLaws.{node_at, nodes_all}
+use borrow.Author.Rules.{rules}
+use Rattle.report.proofs.add_nodes.Given as goal
+
+abbrev pub invariant-loop-i : goal.invariant-loop-i
+invariant-loop-i l =
+    (l.n ≤ length l.words) × (9 * l.n ≤ length l.initial.out) × (l.i ≤ l.n) × (length l.out ≡ length l.initial.out) × Filled (9 * l.i) (each_of (node_at l.words) l.i) 0 l.end l.initial.out l.out
+
+abbrev pub decreases-loop-i : goal.decreases-loop-i
+decreases-loop-i l = l.n - l.i
