@@ -1,0 +1,22 @@
+-- `guard64::guard_weave64` meets its contract. Assumes nothing.
+use Rattle.spec.specs.Weaver.{weaving, output_after}
+use Rattle.spec.specs.Rule.{form64}
+use Rattle.numbers.proofs.NoteLaws.{count_noted, count_unlent}
+use borrow.Author.Rules.{rules}
+use Rattle.guard64.proofs.guard_weave64.Goals as goal
+
+pub returns-then-numbers-lt2 : goal.returns-then-numbers-lt2
+returns-then-numbers-lt2 c =
+    let a = c.args in
+    let x = weaving form64 a.rule.now a.bare.now a.out.now in
+    let after = output_after form64 a.rule.now a.bare.now a.out.now in
+    let both = count_unlent a.numbers.now a.out.now after x c.if-numbers-lt2.true in
+    record { result = both.0; words = both.1.0; output = both.1.1 }
+
+pub returns : goal.returns
+returns c =
+    let a = c.args in
+    let x = weaving form64 a.rule.now a.bare.now a.out.now in
+    let after = output_after form64 a.rule.now a.bare.now a.out.now in
+    let both = count_noted a.numbers.now a.out.now after x _ c.weave64.ensures.answer _ c.weave64.ensures.output c.if-numbers-lt2.false _ c.note_count.ensures.result _ c.note_count.ensures.words in
+    record { result = both.0; words = both.1.0; output = both.1.1 }

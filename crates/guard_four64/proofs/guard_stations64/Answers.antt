@@ -1,0 +1,21 @@
+-- `guard_four64::guard_stations64` meets its contract (`FourLaws` of crate numbers). Assumes nothing.
+use Rattle.spec.specs.Rule.{form64}
+use Rattle.numbers.proofs.FourLaws.{run_four, stations_unlent, stations_noted}
+use borrow.Author.Rules.{rules}
+use Rattle.guard_four64.proofs.guard_stations64.Goals as goal
+
+pub returns-then-numbers-lt3 : goal.returns-then-numbers-lt3
+returns-then-numbers-lt3 c =
+    let a = c.args in
+    stations_unlent form64 a.states.now _ _ _ _ a.budget a.allowance a.numbers.now c.if-numbers-lt3.true
+
+pub note_run-requires : goal.note_run-requires
+note_run-requires c =
+    let a = c.args in
+    (c.if-numbers-lt3.false, run_four form64 a.states.now _ _ _ _ a.budget a.allowance a.numbers.now _ c.count_states.ensures _ _ _ _ c.run_listed64-ran.ensures.answered)
+
+pub returns : goal.returns
+returns c =
+    let a = c.args in
+    stations_noted form64 a.states.now _ _ _ _ a.budget a.allowance a.numbers.now _ c.count_states.ensures _ _ _ _ c.run_listed64-ran.ensures.answered
+    c.if-numbers-lt3.false _ _ _ c.note_run.ensures.result c.note_run.ensures.words (c.note_run.ensures.left _)
