@@ -16,13 +16,13 @@ use crate::pairs::{answer_pair, answer_pair64};
 use crate::runs::answer_machine;
 use crate::texts::request_text;
 use crate::weaving::{answer_weaving, answer_weaving64};
+use input::read_full;
 use limit_requests::request_limits;
 use requests::loading::{load_long, load_numbers, load_words, size_of};
 use requests::printing::{print_answer, print_number, print_numbers, print_refused, say};
 use rule::answer::Verdict;
 use station_requests::request_stations;
 use std::io;
-use std::io::Read;
 use words::word_at;
 
 mod digests;
@@ -267,14 +267,13 @@ fn requests_in(rt: &impl Print, s: &[u8]) -> io::Result<()> {
 
 // What the input holds comes in blocks of 65,536 bytes, and no request goes over the end of one.
 fn main(rt: HostRuntime) -> io::Result<()> {
-    let mut bytes = Vec::new(rt.alloc());
+    let mut bytes = [0u8; 65536];
     for _ in 0..1000 {
-        bytes.clear();
-        rt.stdin().take(65536).read_to_end(&mut bytes)?;
-        if bytes.is_empty() {
+        let n = read_full(&mut rt.stdin(), &mut bytes)?;
+        if n == 0 {
             return Ok(());
         }
-        requests_in(&rt, &bytes)?;
+        requests_in(&rt, &bytes[..n])?;
     }
     Ok(())
 }

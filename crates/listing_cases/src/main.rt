@@ -4,9 +4,9 @@
 
 ghost use Rattle.std.specs.Prelude.{◌<◌, IfOk};
 
+use input::read_full;
 use render::listing::list;
 use std::io;
-use std::io::Read;
 use words::word_at;
 
 fn answer(rt: &impl Print, bytes: &[u8]) -> io::Result<()> {
@@ -50,14 +50,13 @@ fn requests_in(rt: &impl Print, s: &[u8]) -> io::Result<()> {
 
 // What the input holds comes in blocks of 65,536 bytes, and no request goes over the end of one.
 fn main(rt: HostRuntime) -> io::Result<()> {
-    let mut bytes = Vec::new(rt.alloc());
+    let mut bytes = [0u8; 65536];
     for _ in 0..1000 {
-        bytes.clear();
-        rt.stdin().take(65536).read_to_end(&mut bytes)?;
-        if bytes.is_empty() {
+        let n = read_full(&mut rt.stdin(), &mut bytes)?;
+        if n == 0 {
             return Ok(());
         }
-        requests_in(&rt, &bytes)?;
+        requests_in(&rt, &bytes[..n])?;
     }
     Ok(())
 }

@@ -9,13 +9,13 @@ use mathlib.Core.List.{List, [], ◌∷◌, ◌++◌}
 use Prim.Native.Nat.{ℕ, zero, suc, ◌+◌, ◌-◌, ◌*◌, ◌≤◌, ◌<◌}
 use native.Mathlib.Omega.{arith}
 use lib.ListN.{length}
-use lib.Dec.{eqb, ltb, leb}
+use lib.Dec.{ltb}
 use borrow.Author.Tests.{eqb-true, le-leb}
-use Rattle.spec.specs.Questions.{sum, passed, ask}
+use Rattle.spec.specs.Questions.{passed}
 use Rattle.spec.specs.Rule.{Form, Node, false_node, test_node, implies_node, since_node, weak_previous_node, Table, node_at, last_node, is_past, mentions, is_shared, has_work, table_of, through, question4, check_rule}
 use Rattle.spec.specs.Script.{if_work, Instruction, Code, is_present, bare_code, check_bare}
 use Rattle.spec.specs.Facts.{work_is_next, Facts, ◌∪◌, only}
-use Rattle.spec.specs.Check.{Lines, words_of}
+use Rattle.spec.specs.Check.{words_of}
 use Rattle.spec.specs.Weaver.{bare_facts, done_facts, size_from, mention_size, decide_size, Decision, leaf, decide_from, mention_from, decide, update, update_size, work_size, work_code, updates_size, updates, block_size, block, sharing_lines, block_lines, start_of, weave_line, weave_from, weave, woven, woven_lines, question12, question13, check_weaving, weaving, output_for, output_after}
 use Rattle.spec.proofs.BoolLaws.{le_or_lt}
 use Rattle.spec.proofs.QuestionLaws.{then_passed, both_passed, ask_in, ask_out}

@@ -7,7 +7,7 @@
 --     node_fields_lem, fields_fit_lem    a node's fields are read as that node, and question 2 lets them pass
 -- Assumes nothing.
 use mathlib.Core.Path.{◌≡◌, refl, sym, subst, ap, ◌∙◌}
-use mathlib.Core.Bool.{true, ◌&&◌}
+use mathlib.Core.Bool.{true}
 use Prim.Native.Nat.{ℕ, ◌+◌, ◌*◌, ◌/◌, ◌%◌, ◌^◌, ◌<◌}
 use native.Mathlib.Nat.{add_assoc, mod-lt, mod-eq_of_lt}
 use lib.Arith.{digits_lt}
