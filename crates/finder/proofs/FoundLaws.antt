@@ -17,7 +17,7 @@ use native.Mathlib.Omega.{arith}
 use lib.ListN.{length, get_or, take, drop, length-append}
 use lib.Seq.{take_at}
 use borrow.Author.Tests.{le-leb, lt-leb}
-use Rattle.spec.specs.Questions.{Answer, passed, refused, Checked, ◌then◌}
+use Rattle.spec.specs.Questions.{Answer, passed, refused, Checked}
 use Rattle.spec.specs.Rule.{Form, form32, form64, last_node, check_rule}
 use Rattle.spec.specs.Script.{Code, instruction_read, instruction_at, is_present, bare_code, word_for, annotated_opcode, check_code}
 use Rattle.spec.specs.Facts.{value_is, Facts, close}

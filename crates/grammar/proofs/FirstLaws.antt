@@ -4,25 +4,24 @@
 -- Assumes nothing.
 use mathlib.Core.Path.{◌≡◌, refl, sym, subst, ap, ◌∙◌}
 use mathlib.Core.Logic.{◌⊎◌, inl, inr}
-use mathlib.Core.Bool.{Bool, true, false, cond, ◌&&◌}
+use mathlib.Core.Bool.{Bool, true, false, cond}
 use mathlib.Core.Option.{Option, none, some}
 use mathlib.Core.List.{List, [], ◌∷◌, ◌++◌}
 use Prim.Native.Nat.{ℕ, zero, suc, ◌+◌, ◌-◌, ◌*◌, ◌≤◌, ◌<◌}
-use native.Mathlib.Nat.{le_refl}
 use native.Mathlib.Omega.{arith}
-use lib.ListN.{length, get_or, take, drop, length-drop, take-append-drop}
+use lib.ListN.{length, take, drop, length-drop, take-append-drop}
 use lib.Dec.{eqb}
 use borrow.Author.Tests.{eqb-true, eqb-false}
 use Rattle.spec.specs.Questions.{all}
-use Rattle.spec.proofs.BoolLaws.{clash, both_and, le_or_lt}
+use Rattle.spec.proofs.BoolLaws.{both_and, le_or_lt}
 use Rattle.grammar.specs.Grammar.{Word, Sign, Token, word, register, number, sign, letters_of, byte_of, space, letter_r, is_digit, value_from, Writes, nothing, a_space, a_word, a_register, a_number, a_sign}
-use Rattle.grammar.specs.Place.{Want, operand, comparison, constant_number, operator, Place, at, after_token, after_word, after_sign, after_register, after_number, may_end_at, fits}
+use Rattle.grammar.specs.Place.{Want, operand, comparison, constant_number, operator, Place, after_token, after_word, after_sign, after_register, after_number, may_end_at, fits}
 use Rattle.grammar.specs.Bytes.{leading_from, digits_in, agreeing}
-use Rattle.grammar.specs.Scan.{Kind, is_space, is_sign, digit, letter, kind_of, Scan, between, words_for, starting_with, within₁, begun, between_at, or_register, on_letter, on_digit, on_kind, move, may_end, stuck_from, tokens_from}
+use Rattle.grammar.specs.Scan.{Kind, is_space, is_sign, digit, letter, kind_of, Scan, between, words_for, starting_with, within₁, begun, between_at, or_register, on_kind, move, stuck_from, tokens_from}
 use Rattle.grammar.proofs.SpellLaws.{fits_step}
 use Rattle.grammar.proofs.JumpLaws.{none_some, stuck_stop, stuck_end, tokens_end, Jump, space_jump, sign_kind, sign_jump, word_jump, first_of, letters_split}
-use Rattle.grammar.proofs.NumeralLaws.{KindIs, kind_is, digit_kind, leads, leading_on, leading_off, digits_on, digits_off, register_jump, number_jump}
-use Rattle.grammar.proofs.StopLaws.{digit_none, register_none, register_stuck, word_stuck, agreeing_all, agreeing_most}
+use Rattle.grammar.proofs.NumeralLaws.{KindIs, kind_is, digit_kind, leading_on, leading_off, digits_on, digits_off, register_jump, number_jump}
+use Rattle.grammar.proofs.StopLaws.{digit_none, register_stuck, word_stuck, agreeing_all, agreeing_most}
 
 pub data First (t : Bool) (p : Place) : List ℕ → Type 0 where
   at_end : First t p []

@@ -5,21 +5,17 @@
 --     by_word, first_of, second_of, others_of, letters_split, letter_kind, begin_move     words and their letters
 -- Not here: numbers (`proofs/NumeralLaws.antt`), and where the scan stops (`proofs/StopLaws.antt`). Assumes nothing.
 use mathlib.Core.Path.{◌≡◌, refl, sym, subst, ap, ◌∙◌}
-use mathlib.Core.Bool.{Bool, true, false, cond, ◌&&◌}
-use mathlib.Core.Option.{Option, none, some}
+use mathlib.Core.Bool.{Bool, true, false, cond}
+use mathlib.Core.Option.{none, some}
 use mathlib.Core.List.{List, [], ◌∷◌, ◌++◌, append_assoc}
-use Prim.Native.Nat.{ℕ, zero, suc, ◌+◌, ◌-◌, ◌*◌, ◌≤◌, ◌<◌}
+use Prim.Native.Nat.{ℕ, suc, ◌+◌}
 use native.Mathlib.Omega.{arith}
 use lib.ListN.{length, get_or, drop}
-use lib.Dec.{T, leb, ltb, ltb→lt, eqb}
-use borrow.Author.Tests.{eqb-true, eq-eqb, ne_eqb, leb-true}
-use Rattle.spec.specs.Questions.{all}
-use Rattle.spec.proofs.BoolLaws.{clash, and_both}
+use borrow.Author.Tests.{eq-eqb}
 use Rattle.grammar.specs.Typed.{not, wprev, prev, once, sofar, since_word, and_word, or_word, implies_word}
-use Rattle.grammar.specs.Grammar.{Word, constant_word, prefix_word, operator_word, Sign, open_sign, close_sign, equal_sign, below_sign, Token, word, register, number, sign, letters_of, byte_of, space, letter_r, is_digit}
-use Rattle.grammar.specs.Place.{Want, operand, comparison, constant_number, operator, Place, at, after_word, after_sign, after_register, after_number}
-use Rattle.grammar.specs.Scan.{Kind, is_space, is_sign, digit, letter, kind_of, Scan, between, within, after_r, digits, starting_with, within₁, between_at, on_letter, on_digit, on_kind, after_numeral, onwards, first_digit, move, may_end, stuck_from, numeral, sign_token, ended_numeral, ended, pending, tokens_from}
-use Rattle.grammar.specs.Bytes.{leading_from, digits_in, agreeing}
+use Rattle.grammar.specs.Grammar.{Word, constant_word, prefix_word, operator_word, Sign, open_sign, close_sign, equal_sign, below_sign, Token, word, sign, letters_of, byte_of, space}
+use Rattle.grammar.specs.Place.{Want, operand, comparison, constant_number, operator, Place, at, after_word, after_sign}
+use Rattle.grammar.specs.Scan.{is_sign, letter, kind_of, Scan, between, within, starting_with, within₁, between_at, on_letter, on_kind, move, may_end, stuck_from, sign_token, ended, pending, tokens_from}
 
 pub none_some : {A X : Type 0} {a : A} → none ≡ some a → X
 none_some e = let z : ◌≡◌ {A = ℕ} 0 1 = cc in absurd (omega arith)

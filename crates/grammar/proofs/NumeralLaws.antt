@@ -4,22 +4,22 @@
 --     register_jump, number_jump        a register with its r, an atom's number
 --     leads, leads_some, leads_none, digits_within, leading_value, digits_count      digits, and then none
 -- Assumes nothing.
-use mathlib.Core.Path.{◌≡◌, refl, sym, subst, ap, ap₂, ◌∙◌}
-use mathlib.Core.Logic.{◌⊎◌, inl, inr}
-use mathlib.Core.Bool.{Bool, true, false, cond, ◌&&◌}
+use mathlib.Core.Path.{◌≡◌, refl, sym, ap, ap₂, ◌∙◌}
+use mathlib.Core.Logic.{inl, inr}
+use mathlib.Core.Bool.{Bool, true, false, cond}
 use mathlib.Core.Option.{Option, none, some}
 use mathlib.Core.List.{List, [], ◌∷◌, ◌++◌}
-use Prim.Native.Nat.{ℕ, zero, suc, ◌+◌, ◌-◌, ◌*◌, ◌≤◌, ◌<◌}
+use Prim.Native.Nat.{ℕ, suc, ◌+◌, ◌-◌, ◌*◌, ◌≤◌, ◌<◌}
 use native.Mathlib.Omega.{arith}
-use lib.ListN.{length, get_or, drop}
-use lib.Dec.{T, leb, ltb, ltb→lt, eqb}
-use borrow.Author.Tests.{eqb-true, ne_eqb, leb-true}
+use lib.ListN.{length, drop}
+use lib.Dec.{eqb}
+use borrow.Author.Tests.{eqb-true, ne_eqb}
 use Rattle.spec.specs.Questions.{all}
 use Rattle.spec.proofs.BoolLaws.{clash, and_both, decided}
-use Rattle.grammar.specs.Grammar.{Sign, open_sign, close_sign, equal_sign, below_sign, Token, register, number, sign, byte_of, space, letter_r, is_digit, value_from}
+use Rattle.grammar.specs.Grammar.{open_sign, close_sign, equal_sign, below_sign, Token, register, number, byte_of, space, letter_r, is_digit, value_from}
 use Rattle.grammar.specs.Place.{Want, operand, comparison, constant_number, operator, Place, at, after_register, after_number}
 use Rattle.grammar.specs.Bytes.{leading_from, digits_in}
-use Rattle.grammar.specs.Scan.{Kind, is_space, is_sign, digit, letter, kind_of, Scan, between, within, after_r, digits, on_digit, on_kind, after_numeral, onwards, first_digit, move, may_end, stuck_from, numeral, sign_token, ended_numeral, ended, pending, tokens_from}
+use Rattle.grammar.specs.Scan.{Kind, is_space, is_sign, digit, letter, kind_of, Scan, between, after_r, digits, on_digit, on_kind, after_numeral, onwards, first_digit, move, may_end, stuck_from, numeral, sign_token, ended_numeral, ended, tokens_from}
 use Rattle.grammar.proofs.JumpLaws.{none_some, stuck_end, tokens_end, Jump, jump_one, jump_then, jump_count}
 
 -- ---- kinds of bytes

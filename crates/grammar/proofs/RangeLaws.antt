@@ -9,16 +9,16 @@ use mathlib.Core.Logic.{◌⊎◌, inl, inr, ◌↔◌}
 use mathlib.Core.Bool.{Bool, true, false, cond, not, ◌&&◌, ◌||◌}
 use mathlib.Core.Option.{Option, none, some}
 use mathlib.Core.List.{List, [], ◌∷◌, ◌++◌, append_assoc}
-use Prim.Native.Nat.{ℕ, zero, suc, ◌+◌, ◌-◌, ◌*◌, ◌≤◌, ◌<◌}
+use Prim.Native.Nat.{ℕ, zero, suc, ◌+◌, ◌≤◌, ◌<◌}
 use native.Mathlib.Omega.{arith}
 use lib.ListN.{length, get_or, drop, length-append}
 use lib.Dec.{eqb, leb}
-use borrow.Author.Tests.{leb-true, le-leb, lt-leb}
+use borrow.Author.Tests.{le-leb, lt-leb}
 use Rattle.spec.specs.Logic.{largest_value}
 use Rattle.spec.specs.Questions.{all, passed, refused, first_failing, no_at, ask}
 use Rattle.spec.proofs.BoolLaws.{clash, and_both, le_or_lt}
-use Rattle.grammar.specs.Typed.{TextFormula, constant, atom, prefixed, joined}
-use Rattle.grammar.specs.Grammar.{Word, constant_word, prefix_word, operator_word, Sign, open_sign, close_sign, equal_sign, below_sign, Token, word, register, number, sign, Compares, Spells, a_constant, an_atom, in_brackets, a_prefixed, a_joined, tighter, letters_of, byte_of, space, letter_r, is_digit, value_from, Writes, nothing, a_space, a_word, a_register, a_number, a_sign, IsText}
+use Rattle.grammar.specs.Typed.{TextFormula}
+use Rattle.grammar.specs.Grammar.{Word, constant_word, prefix_word, operator_word, Sign, open_sign, close_sign, equal_sign, below_sign, Token, word, register, number, sign, Spells, a_constant, an_atom, in_brackets, a_prefixed, a_joined, tighter, letters_of, byte_of, space, letter_r, is_digit, value_from, Writes, nothing, a_space, a_word, a_register, a_number, a_sign, IsText}
 use Rattle.grammar.specs.Place.{Want, operand, comparison, constant_number, operator, Place, at, after_word, after_number, fits}
 use Rattle.grammar.specs.Bytes.{leading_from}
 use Rattle.grammar.specs.Texting.{most_after, question17}

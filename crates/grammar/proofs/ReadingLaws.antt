@@ -5,16 +5,13 @@
 --     formula_read       and the builder of formulas, the formula itself: so tokens spell at most one
 -- Assumes nothing.
 use mathlib.Core.Path.{◌≡◌, refl, sym, subst, ap, ap₂, ◌∙◌}
-use mathlib.Core.Bool.{Bool, true, false, cond}
-use mathlib.Core.List.{List, [], ◌∷◌, ◌++◌, append-nil}
-use Prim.Native.Nat.{ℕ, zero, suc, ◌+◌, ◌-◌, ◌*◌, ◌≤◌, ◌<◌}
-use native.Mathlib.Nat.{le_refl, le_trans}
+use mathlib.Core.List.{List, [], ◌∷◌, ◌++◌}
+use Prim.Native.Nat.{ℕ, zero, suc, ◌≤◌, ◌<◌}
 use native.Mathlib.Omega.{arith}
-use lib.Dec.{leb}
 use borrow.Author.Tests.{le-leb, lt-leb}
-use Rattle.grammar.specs.Typed.{Prefix, Operator, since_word, and_word, or_word, implies_word, Comparison, TextFormula, constant, atom, prefixed, joined}
-use Rattle.grammar.specs.Grammar.{Word, constant_word, prefix_word, operator_word, Sign, open_sign, close_sign, equal_sign, below_sign, Token, word, register, number, sign, strength, left_level, right_level, Compares, by_equal, by_below, Spells, a_constant, an_atom, in_brackets, a_prefixed, a_joined, tighter}
-use Rattle.grammar.specs.Reading.{Waiting, awaiting, with_left, level_of, rank, Builder, Entry, Built, Reading, unwound, waits, joining, replaced, built_after, read, read_all, whole, nothing_read, formulas}
+use Rattle.grammar.specs.Typed.{Prefix, Operator, since_word, and_word, or_word, implies_word, TextFormula, constant, atom, prefixed, joined}
+use Rattle.grammar.specs.Grammar.{prefix_word, operator_word, open_sign, close_sign, Token, word, sign, strength, left_level, right_level, by_equal, by_below, Spells, a_constant, an_atom, in_brackets, a_prefixed, a_joined, tighter}
+use Rattle.grammar.specs.Reading.{Waiting, awaiting, with_left, level_of, rank, Builder, Entry, Built, Reading, unwound, waits, read, read_all, whole, nothing_read, formulas}
 
 -- words of this level and less may follow a formula of level l without ending inside it
 abbrev follow : ℕ → ℕ

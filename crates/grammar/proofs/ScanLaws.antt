@@ -5,24 +5,23 @@
 --     text_accepts, accepts_text, text_passes, passes_text      so question 16 lets just the texts pass
 --     text_tokens, text_formula, text_one       a text's tokens, and its one formula
 -- Not here: that bytes which it goes through write the tokens that it finds (`proofs/FirstLaws.antt`). Assumes nothing.
-use mathlib.Core.Path.{◌≡◌, refl, sym, subst, ap, ap₂, ◌∙◌}
+use mathlib.Core.Path.{◌≡◌, refl, sym, subst, ap, ◌∙◌}
 use mathlib.Core.Bool.{Bool, true, false, cond}
 use mathlib.Core.Option.{Option, none, some}
 use mathlib.Core.List.{List, [], ◌∷◌, ◌++◌}
-use Prim.Native.Nat.{ℕ, zero, suc, ◌+◌, ◌-◌, ◌≤◌, ◌<◌}
-use native.Mathlib.Nat.{le_refl}
+use Prim.Native.Nat.{ℕ, suc, ◌+◌}
 use native.Mathlib.Omega.{arith}
-use lib.ListN.{length, get_or, drop, length-append}
+use lib.ListN.{length, drop}
 use lib.Seq.{drop_at}
-use Rattle.spec.specs.Questions.{passed, refused, all, no_at}
+use Rattle.spec.specs.Questions.{passed, all, no_at}
 use Rattle.spec.proofs.BoolLaws.{clash, and_both}
 use Rattle.grammar.specs.Typed.{TextFormula, constant}
-use Rattle.grammar.specs.Grammar.{Word, Sign, open_sign, close_sign, equal_sign, below_sign, Token, word, register, number, sign, letters_of, byte_of, space, letter_r, is_digit, value_from, Spells, Writes, nothing, a_space, a_word, a_register, a_number, a_sign, IsText}
-use Rattle.grammar.specs.Place.{Want, operand, comparison, constant_number, operator, Place, at, after_token, after_register, after_number, may_end_at, fits}
+use Rattle.grammar.specs.Grammar.{Word, Sign, open_sign, close_sign, equal_sign, below_sign, Token, word, register, number, sign, letters_of, byte_of, letter_r, is_digit, value_from, Writes, nothing, a_space, a_word, a_register, a_number, a_sign, IsText}
+use Rattle.grammar.specs.Place.{Want, operand, comparison, constant_number, operator, Place, at, after_register, after_number, fits}
 use Rattle.grammar.specs.Bytes.{leading_from, digits_in}
-use Rattle.grammar.specs.Scan.{Scan, between, move, may_end, stuck_from, tokens_from, start, question16, tokens_of}
+use Rattle.grammar.specs.Scan.{Scan, between, stuck_from, tokens_from, start, question16, tokens_of}
 use Rattle.grammar.specs.Reading.{formulas, read_all, whole, nothing_read, formula_of}
-use Rattle.grammar.proofs.SpellLaws.{fits_step, fits_stop, fits_out, fits_spells, spells_fits}
+use Rattle.grammar.proofs.SpellLaws.{fits_stop, fits_out, fits_spells, spells_fits}
 use Rattle.grammar.proofs.ReadingLaws.{formula_read}
 use Rattle.grammar.proofs.JumpLaws.{none_some, stuck_end, tokens_end, Jump, space_jump, sign_jump, word_jump, by_word}
 use Rattle.grammar.proofs.NumeralLaws.{leads, register_jump, number_jump, leading_value, digits_count}

@@ -4,21 +4,21 @@
 --     register_stuck              r has no number
 --     agreeing_first, agreeing_most, agreeing_within, agreeing_same, agreeing_all      a word's letters that stand there
 -- Assumes nothing.
-use mathlib.Core.Path.{◌≡◌, refl, sym, subst, ap, ◌∙◌}
+use mathlib.Core.Path.{◌≡◌, refl, sym, ap, ◌∙◌}
 use mathlib.Core.Logic.{◌≢◌}
 use mathlib.Core.Bool.{Bool, true, false, cond}
-use mathlib.Core.Option.{Option, none, some}
+use mathlib.Core.Option.{none, some}
 use mathlib.Core.List.{List, [], ◌∷◌, ◌++◌}
-use Prim.Native.Nat.{ℕ, zero, suc, ◌+◌, ◌-◌, ◌≤◌, ◌<◌}
+use Prim.Native.Nat.{ℕ, suc, ◌+◌, ◌≤◌, ◌<◌}
 use native.Mathlib.Omega.{arith}
-use lib.ListN.{length, get_or, take, drop}
+use lib.ListN.{length, take, drop}
 use lib.Dec.{eqb}
-use borrow.Author.Tests.{eqb-true, eqb-false, eq-eqb, ne_eqb}
+use borrow.Author.Tests.{eqb-true, eq-eqb}
 use Rattle.spec.proofs.BoolLaws.{clash}
 use Rattle.grammar.specs.Grammar.{Word, Sign, letters_of, byte_of, space, letter_r, is_digit}
-use Rattle.grammar.specs.Place.{Want, operand, comparison, constant_number, operator, Place, at, after_word, after_sign, after_register, after_number}
+use Rattle.grammar.specs.Place.{Want, operand, comparison, constant_number, operator, Place, after_word, after_sign, after_register, after_number}
 use Rattle.grammar.specs.Bytes.{agreeing}
-use Rattle.grammar.specs.Scan.{Kind, is_space, is_sign, digit, letter, kind_of, Scan, between, within, after_r, words_for, starting_with, begun, between_at, or_register, on_letter, on_digit, on_kind, first_digit, move, may_end, stuck_from}
+use Rattle.grammar.specs.Scan.{Kind, is_space, is_sign, digit, letter, kind_of, between, within, after_r, words_for, starting_with, begun, between_at, or_register, on_letter, on_digit, on_kind, first_digit, move, stuck_from}
 use Rattle.grammar.proofs.JumpLaws.{none_some, stuck_step, stuck_stop, stuck_end, first_of, second_of, others_of, letters_split, begin_move}
 use Rattle.grammar.proofs.NumeralLaws.{KindIs, kind_is, leads, register_move}
 

@@ -8,15 +8,15 @@ use mathlib.Core.Logic.{◌⊎◌, inl, inr}
 use mathlib.Core.Bool.{Bool, true, false, cond}
 use mathlib.Core.Option.{Option, none, some}
 use mathlib.Core.List.{List, [], ◌∷◌, ◌++◌, append_assoc}
-use Prim.Native.Nat.{ℕ, zero, suc, ◌+◌, ◌-◌, ◌≤◌, ◌<◌}
+use Prim.Native.Nat.{ℕ, zero, suc, ◌+◌, ◌≤◌, ◌<◌}
 use native.Mathlib.Omega.{arith}
 use lib.ListN.{length, take, drop, replicate, take-append-drop}
 use lib.Seq.{take-take}
 use Rattle.spec.specs.Questions.{refused, no_at}
 use Rattle.spec.proofs.BoolLaws.{le_or_lt}
 use Rattle.grammar.specs.Typed.{TextFormula}
-use Rattle.grammar.specs.Grammar.{constant_word, close_sign, equal_sign, Token, word, register, number, sign, letters_of, byte_of, space, Writes, nothing, a_space, a_word, a_number, a_sign, IsText, StuckAt}
-use Rattle.grammar.specs.Place.{Want, operand, comparison, constant_number, operator, Place, at, fits}
+use Rattle.grammar.specs.Grammar.{constant_word, close_sign, equal_sign, Token, word, register, number, sign, letters_of, space, Writes, nothing, a_space, a_word, a_number, a_sign, IsText, StuckAt}
+use Rattle.grammar.specs.Place.{Want, operand, comparison, constant_number, operator, at, fits}
 use Rattle.grammar.specs.Scan.{Scan, between, within, after_r, digits, move, may_end, start, stuck_from, question16, tokens_from}
 use Rattle.grammar.proofs.SpellLaws.{fits_step}
 use Rattle.grammar.proofs.JumpLaws.{none_some, stuck_step, stuck_stop, stuck_end, jump_one, within_jump}

@@ -6,15 +6,14 @@
 --     words_moved                  moved to another form they are the words of that form
 -- Assumes nothing.
 use mathlib.Core.Path.{◌≡◌, refl, ap, ap₂, ◌∙◌}
-use mathlib.Core.Bool.{true, ◌&&◌}
-use mathlib.Core.List.{List, [], ◌∷◌, ◌++◌, map}
-use Prim.Native.Nat.{ℕ, zero, suc, ◌+◌, ◌-◌, ◌≤◌, ◌<◌}
+use mathlib.Core.Bool.{true}
+use mathlib.Core.List.{[], ◌∷◌, ◌++◌, map}
+use Prim.Native.Nat.{ℕ, zero, suc, ◌+◌, ◌≤◌, ◌<◌}
 use native.Mathlib.Omega.{arith}
 use lib.ListN.{length, get_or, length-map}
-use lib.Dec.{ltb, leb, eqb}
 use borrow.Author.Tests.{lt-ltb, le-leb}
 use Rattle.spec.specs.Logic.{Test, equal, below, equal_registers, Formula, never, test, implies, since, weak_previous}
-use Rattle.spec.specs.Questions.{passed, ◌then◌}
+use Rattle.spec.specs.Questions.{passed}
 use Rattle.spec.specs.Rule.{Form, Node, false_node, test_node, implies_node, since_node, weak_previous_node, node_of, fields_of_node, Table, table_of, rule_of, question1, node_allowed, fields_fit, question2, question3, question4, mentions, check_rule}
 use Rattle.spec.proofs.BoolLaws.{both_and}
 use Rattle.spec.proofs.QuestionLaws.{then_passed, once_in, ask_in}

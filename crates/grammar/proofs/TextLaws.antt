@@ -18,8 +18,8 @@ use lib.ListN.{length}
 use lib.Dec.{leb}
 use borrow.Author.Tests.{leb-true, le-leb, lt-leb}
 use Rattle.spec.specs.Logic.{Trace, Formula}
-use Rattle.spec.specs.Questions.{Answer, passed, refused, Checked, ◌then◌, first_failing, ask, ask_once}
-use Rattle.spec.specs.Rule.{Form, form32, form64, table_of, rule_of}
+use Rattle.spec.specs.Questions.{Answer, passed, refused, Checked, first_failing, ask, ask_once}
+use Rattle.spec.specs.Rule.{Form, form32, form64, table_of}
 use Rattle.spec.specs.Judging.{Verdict, breach, clean, verdict_on, Means as VerdictMeans}
 use Rattle.spec.proofs.QuestionLaws.{then_passed, then_refused, then_no, both_passed, once_in, once_no, once_out, once_number, no_number}
 use Rattle.spec.proofs.JudgingLaws.{verdict_means}

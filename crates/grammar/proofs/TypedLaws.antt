@@ -2,14 +2,13 @@
 --     stable            a formula that is not refuted is true: truth is decided
 --     opened_agrees     a text formula and what it is opened to mean the same, on every trace at every index
 -- Assumes nothing.
-use mathlib.Core.Path.{◌≡◌, refl}
-use mathlib.Core.Logic.{◌⊎◌, inl, inr, ◌≢◌, ◌↔◌}
-use mathlib.Core.Bool.{Bool, true, false}
-use Prim.Native.Nat.{ℕ, ◌-◌, ◌≤◌, ◌<◌}
-use Rattle.spec.specs.Logic.{Trace, Test, Formula, never, test, implies, since, weak_previous, Satisfies, holds}
+use mathlib.Core.Logic.{◌⊎◌, inl, inr, ◌↔◌}
+use mathlib.Core.Bool.{true, false}
+use Prim.Native.Nat.{ℕ, ◌-◌}
+use Rattle.spec.specs.Logic.{Trace, Formula, Satisfies, holds}
 use Rattle.spec.proofs.BoolLaws.{clash, decided}
 use Rattle.spec.proofs.LogicLaws.{agrees}
-use Rattle.grammar.specs.Typed.{Prefix, not, wprev, prev, once, sofar, Operator, since_word, and_word, or_word, implies_word, TextFormula, constant, atom, prefixed, joined, MeansPrefixed, MeansJoined, Means, opened_true, opened_prefix, opened_operator, opened}
+use Rattle.grammar.specs.Typed.{Prefix, not, wprev, prev, once, sofar, Operator, since_word, and_word, or_word, implies_word, TextFormula, constant, atom, prefixed, joined, MeansPrefixed, MeansJoined, Means, opened_prefix, opened_operator, opened}
 
 pub either : (σ : Trace) (φ : Formula) (n : ℕ) → Satisfies σ φ n ⊎ (Satisfies σ φ n → ⊥)
 either σ φ n =

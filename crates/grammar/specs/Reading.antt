@@ -3,7 +3,7 @@
 -- built is that of the formula which the tokens spell.
 use Rattle.std.specs.Prelude.{Bool, false, cond, List, [], ◌∷◌, ℕ, suc, ◌+◌, ◌-◌, ◌*◌, leb}
 use Rattle.grammar.specs.Typed.{Prefix, Operator, Comparison, equal_to, less_than, TextFormula, constant, atom, prefixed, joined}
-use Rattle.grammar.specs.Grammar.{Word, constant_word, prefix_word, operator_word, Sign, open_sign, close_sign, equal_sign, below_sign, Token, word, register, number, sign, strength, right_level}
+use Rattle.grammar.specs.Grammar.{constant_word, prefix_word, operator_word, open_sign, close_sign, equal_sign, below_sign, Token, word, register, number, sign, strength, right_level}
 use Rattle.grammar.specs.Scan.{tokens_of}
 
 -- a word that waits for an operand

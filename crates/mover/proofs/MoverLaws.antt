@@ -6,7 +6,7 @@
 --     up_words, back_words              the words of a script in the other form
 -- Assumes nothing.
 use mathlib.Core.Path.{◌≡◌, refl, sym, ap, ◌∙◌}
-use mathlib.Core.Bool.{Bool, true, false, not}
+use mathlib.Core.Bool.{Bool, true, false}
 use mathlib.Core.List.{List, [], ◌∷◌, ◌++◌, map}
 use Prim.Native.Nat.{ℕ, zero, suc, ◌+◌, ◌≤◌, ◌<◌}
 use native.Mathlib.Numerals.{add-one}
@@ -18,7 +18,7 @@ use Rattle.spec.specs.Rule.{form32, form64, table_of, check_rule}
 use Rattle.spec.specs.Script.{annotated_opcode, check_code}
 use Rattle.spec.specs.Check.{annotated_stored, lines_of, question8}
 use Rattle.spec.proofs.RuleLaws.{rule_out}
-use Rattle.moves.specs.Moves.{widen_rule, widen_script, narrow_script, widen_word, narrow_word, check_move}
+use Rattle.moves.specs.Moves.{widen_rule, widen_script, narrow_script, widen_word, check_move}
 use Rattle.moves.specs.Moved.{Answers}
 use Rattle.moves.proofs.NodeMoveLaws.{table_widen, check_widen}
 use Rattle.rule.specs.Nodes.{stored_in, words_in, word_by, Put}

@@ -1,5 +1,5 @@
 -- Answers as numbers: what a function hands back, and the words that it writes at the start of lent memory.
-use Rattle.std.specs.Prelude.{Bool, true, false, cond, List, [], ◌∷◌, ◌++◌, ℕ, length, drop, leb}
+use Rattle.std.specs.Prelude.{Bool, cond, List, [], ◌∷◌, ◌++◌, ℕ, length, drop, leb}
 use Rattle.spec.specs.Questions.{Answer, passed, refused, Checked}
 use Rattle.spec.specs.Judging.{Verdict, breach, clean}
 use Rattle.spec.specs.Machine.{Stop, halted, spent, dry, full, Report}

@@ -11,7 +11,7 @@ use mathlib.Core.Bool.{Bool, true, false, cond, not}
 use mathlib.Core.List.{List, [], ◌∷◌, ◌++◌, append_assoc, append-nil}
 use Prim.Native.Nat.{ℕ, zero, suc, ◌+◌, ◌-◌, ◌≤◌, ◌<◌}
 use native.Mathlib.Omega.{arith}
-use lib.ListN.{length, take, drop, set, length-append, length-drop, length-take, length-set, drop_of_length-le, take-append-drop}
+use lib.ListN.{length, take, drop, set, length-append, length-drop, length-set, drop_of_length-le, take-append-drop}
 use lib.Seq.{drop-drop, take-add, take_at, drop_at, take_all, length-take-le}
 use Rattle.rule.specs.Nodes.{stored_in, word_by, over_at, Put}
 

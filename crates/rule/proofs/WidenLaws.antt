@@ -7,7 +7,7 @@ use mathlib.Core.Path.{◌≡◌, sym, ap, ◌∙◌}
 use mathlib.Core.List.{List, ◌++◌}
 use Prim.Native.Nat.{ℕ, ◌≤◌, ◌<◌}
 use lib.ListN.{length, take, drop, length-map}
-use Rattle.spec.specs.Questions.{refused, ◌then◌}
+use Rattle.spec.specs.Questions.{refused}
 use Rattle.spec.specs.Rule.{form32, form64, check_rule}
 use Rattle.spec.specs.Judging.{judging}
 use Rattle.spec.proofs.QuestionLaws.{then_refused}

@@ -6,12 +6,12 @@
 -- Assumes nothing.
 use mathlib.Core.Path.{◌≡◌, refl, sym, ap, ap₂, ◌∙◌}
 use mathlib.Core.Bool.{true, false}
-use mathlib.Core.List.{List, [], ◌∷◌, ◌++◌, map, append_assoc, append-nil}
-use Prim.Native.Nat.{ℕ, suc, ◌+◌, ◌-◌}
+use mathlib.Core.List.{List, [], ◌∷◌, ◌++◌, map, append_assoc}
+use Prim.Native.Nat.{ℕ, ◌+◌}
 use native.Mathlib.Omega.{arith}
 use lib.ListN.{length, length-append, length-map}
-use Rattle.spec.specs.Logic.{Formula, never, test, implies, since, weak_previous}
-use Rattle.spec.specs.Rule.{Form, Node, false_node, test_node, implies_node, since_node, weak_previous_node, Table}
+use Rattle.spec.specs.Logic.{Formula, never, implies, since, weak_previous}
+use Rattle.spec.specs.Rule.{Form, Node, false_node, implies_node, since_node, weak_previous_node, Table}
 use Rattle.grammar.specs.Typed.{Prefix, not, wprev, prev, once, sofar, Operator, since_word, and_word, or_word, implies_word, TextFormula, constant, atom, prefixed, joined, opened_prefix, opened_operator, opened}
 use Rattle.grammar.specs.Grammar.{prefix_word, operator_word, close_sign, Token, word, sign, Spells, a_constant, an_atom, in_brackets, a_prefixed, a_joined, tighter}
 use Rattle.grammar.specs.Nodes.{size, last_from, over, nodes_from, word_of_node, rule_words}

@@ -5,7 +5,7 @@
 --     stuck_here, comparison_none, operand_none, operator_none, starts_none     no token begins with this byte
 -- Assumes nothing.
 use mathlib.Core.Path.{◌≡◌, refl, sym, subst, ap, ◌∙◌}
-use mathlib.Core.Logic.{◌⊎◌, inl, inr, ◌≢◌}
+use mathlib.Core.Logic.{inl, inr, ◌≢◌}
 use mathlib.Core.Bool.{Bool, true, false, cond}
 use mathlib.Core.Option.{none, some}
 use mathlib.Core.List.{List, [], ◌∷◌, ◌++◌, map}
@@ -14,12 +14,11 @@ use native.Mathlib.Numerals.{add-one}
 use native.Mathlib.Omega.{arith}
 use lib.ListN.{length, get_or, drop, length-drop}
 use lib.Seq.{drop-cons, drop-drop}
-use lib.Dec.{ltb, eqb}
+use lib.Dec.{ltb}
 use borrow.Author.Tests.{ltb-true, ltb-false, ne_eqb}
 use Rattle.spec.proofs.BoolLaws.{clash, decided}
 use Rattle.grammar.specs.Grammar as grammar
 use Rattle.grammar.specs.Grammar.{Word, Sign, open_sign, close_sign, equal_sign, below_sign, word, register, number, sign, letters_of, byte_of, space, letter_r, is_digit}
-use Rattle.grammar.specs.Place as spec
 use Rattle.grammar.specs.Place.{Place, at, operand, comparison, constant_number, operator, after_word, after_sign}
 use Rattle.grammar.specs.Bytes.{leading_from, digits_in, agreeing}
 use Rattle.grammar.specs.Scan.{kind_of, Scan, between, stuck_from, tokens_from, words_for, starting_with}

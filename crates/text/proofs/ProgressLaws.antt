@@ -7,13 +7,13 @@
 use mathlib.Core.Path.{◌≡◌, refl, sym, subst, ap, ap₂, ◌∙◌}
 use mathlib.Core.Bool.{Bool, true, false}
 use mathlib.Core.List.{List, [], ◌∷◌}
-use Prim.Native.Nat.{ℕ, suc, ◌+◌, ◌-◌, ◌≤◌, ◌<◌}
+use Prim.Native.Nat.{ℕ, suc, ◌+◌, ◌≤◌, ◌<◌}
 use native.Mathlib.Omega.{arith}
 use lib.ListN.{length, take}
 use Rattle.spec.specs.Rule.{false_node, test_node}
 use Rattle.grammar.specs.Typed as typed
 use Rattle.grammar.specs.Typed.{test_of}
-use Rattle.grammar.specs.Grammar.{constant_word, Token, word, register, number, strength}
+use Rattle.grammar.specs.Grammar.{constant_word, Token, word, number, strength}
 use Rattle.grammar.specs.Reading.{awaiting, with_left, rank, unwound, waits, read, read_all}
 use Rattle.text.specs.Tokens.{prefix_of, operator_of}
 use Rattle.text.specs.Building.{put, put_constant, words, begin_cost, finish_cost, token_cost, cost}

@@ -5,20 +5,20 @@
 --     entries_owed                     each owes one at least, so that the array is long enough
 --     read_small                       nodes to the left stay nodes of the table
 -- Assumes nothing.
-use mathlib.Core.Path.{◌≡◌, refl, sym, subst, ap, ap₂, ◌∙◌}
+use mathlib.Core.Path.{◌≡◌, refl, ap, ap₂, ◌∙◌}
 use mathlib.Core.Logic.{◌≢◌}
 use mathlib.Core.Bool.{Bool, true, false, cond}
 use mathlib.Core.List.{List, [], ◌∷◌}
-use Prim.Native.Nat.{ℕ, zero, suc, ◌+◌, ◌-◌, ◌*◌, ◌≤◌, ◌<◌}
+use Prim.Native.Nat.{ℕ, zero, suc, ◌+◌, ◌*◌, ◌≤◌}
 use native.Mathlib.Omega.{arith}
 use lib.ListN.{length, get_or, set, length-set}
 use lib.Seq.{get_or-set_same, get_or-set_other}
 use lib.Dec.{leb}
 use Rattle.spec.specs.Rule.{Form, false_node, test_node}
-use Rattle.grammar.specs.Typed.{not, wprev, prev, once, sofar, Operator, since_word, and_word, or_word, implies_word, test_of}
+use Rattle.grammar.specs.Typed.{not, wprev, prev, once, sofar, since_word, and_word, or_word, implies_word, test_of}
 use Rattle.grammar.specs.Grammar.{constant_word, prefix_word, operator_word, Token, word, register, number, sign, strength}
 use Rattle.grammar.specs.Reading.{Waiting, awaiting, with_left, rank, Entry, Built, Reading, unwound, waits, read}
-use Rattle.text.specs.Building.{last_of, put, put_implies, begins, finishes, words, begin_cost, finish_cost, token_cost}
+use Rattle.text.specs.Building.{put_implies, begins, finishes, words, begin_cost, finish_cost, token_cost}
 use Rattle.text.specs.Stacks.{table_length, waiting_of, entry_of, entry_at, stack_of, owed, LeftSmall}
 use Rattle.text.proofs.BuildLaws.{put_length, true_length, begins_length, finishes_length}
 

@@ -6,12 +6,10 @@ use mathlib.Core.Bool.{Bool, true, false, cond}
 use mathlib.Core.List.{List}
 use Prim.Native.Nat.{ℕ, ◌+◌, ◌≤◌, ◌<◌}
 use lib.ListN.{length, drop}
-use lib.Dec.{ltb}
 use borrow.Author.Tests.{lt-ltb, le-ltb}
 use Rattle.grammar.specs.Bytes.{agreeing}
 use Rattle.text.specs.Tokens.{spelled, word_at}
 use Rattle.text.specs.declared.token.Token.{Token}
-use Rattle.text.specs.declared.token.Lexed.{Lexed}
 use Rattle.text.specs.declared.token.Lexed.TheVariants as lexed
 
 module _ (x : Token) (t : Bool) (letters : List ℕ) (at : ℕ) (text : List ℕ) where

@@ -6,7 +6,7 @@ use mathlib.Core.Path.{◌≡◌, refl, sym, subst, ap, ap₂, ◌∙◌}
 use mathlib.Core.Bool.{true, false}
 use mathlib.Core.Option.{none, some}
 use mathlib.Core.List.{List, [], ◌∷◌, ◌++◌, map}
-use Prim.Native.Nat.{ℕ, ◌+◌, ◌-◌, ◌≤◌, ◌<◌}
+use Prim.Native.Nat.{ℕ, ◌+◌, ◌≤◌, ◌<◌}
 use native.Mathlib.Omega.{arith}
 use lib.ListN.{length, take, drop, replicate, drop_of_length-le}
 use Rattle.spec.specs.Questions.{passed}
@@ -21,7 +21,7 @@ use Rattle.grammar.proofs.JumpLaws.{none_some, tokens_end}
 use Rattle.grammar.proofs.ReadingLaws.{read_append, read_spelled}
 use Rattle.grammar.proofs.ScanLaws.{passes_through, passes_text, text_tokens, text_formula}
 use Rattle.grammar.proofs.RangeLaws.{fit_append, range_tokens}
-use Rattle.text.specs.Tokens.{tokens_in, capped, capped_token}
+use Rattle.text.specs.Tokens.{tokens_in, capped_token}
 use Rattle.text.specs.Places.{scan_of, scan_after, Over}
 use Rattle.text.specs.Building.{words, cost}
 use Rattle.text.specs.Stacks.{table_length, stack_length, stack_of, owed, LeftSmall, Fitting, Unwinds}

@@ -3,7 +3,7 @@
 -- that they are the nodes of the opened formula.
 use Rattle.std.specs.Prelude.{Bool, true, false, List, [], ◌∷◌, ◌++◌, ℕ, ◌+◌, ◌-◌, length}
 use Rattle.spec.specs.Rule.{Form, Node, false_node, test_node, implies_node, since_node, weak_previous_node}
-use Rattle.grammar.specs.Typed.{Prefix, not, wprev, prev, once, sofar, Operator, since_word, and_word, or_word, implies_word, test_of}
+use Rattle.grammar.specs.Typed.{not, wprev, prev, once, sofar, since_word, and_word, or_word, implies_word, test_of}
 use Rattle.grammar.specs.Grammar.{constant_word, prefix_word, operator_word, Token, word, register, number, sign}
 use Rattle.grammar.specs.Nodes.{word_of_node}
 use Rattle.grammar.specs.Reading.{Waiting, awaiting, with_left, Builder}

@@ -3,7 +3,7 @@
 use Rattle.std.specs.Prelude.{◌≡◌, Bool, true, false, List, [], ◌∷◌, ℕ, zero, suc, ◌+◌, ◌*◌, ◌≤◌, ◌<◌, length, get_or, take, leb}
 use Rattle.rule.specs.Nodes.{form_in}
 use Rattle.grammar.specs.Typed.{not, wprev, prev, once, sofar, since_word, and_word, or_word, implies_word, Comparison, equal_to, less_than}
-use Rattle.grammar.specs.Reading.{Waiting, awaiting, with_left, level_of, rank, Entry, Built, Reading, unwound}
+use Rattle.grammar.specs.Reading.{Waiting, awaiting, with_left, level_of, rank, Entry, Built, unwound}
 use Rattle.text.specs.Building.{words, finish_cost}
 
 -- how many nodes the table has space for: as many as the form in which a rule is held allows

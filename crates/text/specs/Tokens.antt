@@ -1,5 +1,5 @@
 -- This crate's tokens as the grammar's.
-use Rattle.std.specs.Prelude.{Bool, true, false, cond, List, [], ◌∷◌, ℕ, ◌+◌, length, drop, leb, ltb}
+use Rattle.std.specs.Prelude.{Bool, cond, List, [], ◌∷◌, ℕ, ◌+◌, length, drop, leb, ltb}
 use Rattle.grammar.specs.Typed as typed
 use Rattle.grammar.specs.Grammar as grammar
 use Rattle.grammar.specs.Grammar.{constant_word, prefix_word, operator_word, open_sign, close_sign, equal_sign, below_sign, word, register, number, sign}

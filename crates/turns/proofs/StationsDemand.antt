@@ -1,17 +1,16 @@
 -- Request 2026-10: `stations_kept : (form : Form) → StationsKept form`. `specs/StationsPromise.antt` has the statement; its parts are
 -- proved turn by turn in `StationsLaws`, and each station's rule is demand 3's `safe` at its own steps. Assumes nothing.
 use mathlib.Core.Path.{◌≡◌, refl, sym, subst, ap, ◌∙◌}
-use mathlib.Core.Logic.{◌⊎◌, inl, inr}
+use mathlib.Core.Logic.{inl, inr}
 use mathlib.Core.Bool.{true, false}
 use Prim.Native.Nat.{ℕ, zero, suc, ◌+◌, ◌≤◌, ◌<◌}
 use native.Mathlib.Nat.{zero-add}
 use native.Mathlib.Omega.{arith}
 use Rattle.spec.specs.Logic.{Satisfies}
-use Rattle.spec.specs.Questions.{passed}
 use Rattle.spec.specs.Rule.{Form, table_of, rule_of}
 use Rattle.spec.specs.Machine.{trace, move}
 use Rattle.spec.specs.Ready.{MachineState, would_keep}
-use Rattle.turns.specs.Stations.{station_count, Four, pick, Station, Progress, started, station_at, instruction_for, station_step, with_step, is_passed, turn, run_turns, check_stations, running_stations}
+use Rattle.turns.specs.Stations.{station_count, Four, pick, Station, Progress, started, station_at, instruction_for, station_step, with_step, is_passed, run_turns, check_stations, running_stations}
 use Rattle.turns.specs.StationsPromise.{after_turns, Able, FourPassed, StationsPromise, StationsKept}
 use Rattle.spec.proofs.BoolLaws.{decided}
 use Rattle.spec.proofs.QuestionLaws.{both_passed}

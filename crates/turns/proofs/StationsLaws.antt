@@ -13,22 +13,20 @@ use mathlib.Core.Logic.{◌⊎◌, inl, inr}
 use mathlib.Core.Bool.{Bool, true, false, cond, ◌&&◌, ◌||◌}
 use mathlib.Core.Option.{Option, none, some, Option-elim}
 use mathlib.Core.List.{List}
-use Prim.Native.Nat.{ℕ, zero, suc, ◌+◌, ◌-◌, ◌%◌, ◌≤◌, ◌<◌}
-use native.Mathlib.Nat.{zero-add}
+use Prim.Native.Nat.{ℕ, zero, suc, ◌+◌, ◌-◌, ◌≤◌, ◌<◌}
 use native.Mathlib.Omega.{arith}
 use lib.ListN.{length}
 use lib.Dec.{eqb, eqb-suc-zero}
 use borrow.Author.Tests.{eqb-true, eqb-false}
 use Rattle.spec.specs.Logic.{Satisfies}
-use Rattle.spec.specs.Questions.{passed, refused, Checked, ◌then◌}
+use Rattle.spec.specs.Questions.{passed, refused, Checked}
 use Rattle.spec.specs.Rule.{Form, table_of, rule_of}
-use Rattle.spec.specs.Judging.{question15}
-use Rattle.spec.specs.Script.{Instruction, halt, write, branch, goto, present, set_work, keep, instruction_at, is_present}
-use Rattle.spec.specs.Check.{code_of, lines_of, check_script}
-use Rattle.spec.specs.Machine.{Machine, trace, fresh, fresh_of, Stop, stops, move, step, step_of, acting, unless_stopped}
+use Rattle.spec.specs.Script.{Instruction, halt, write, branch, goto, present, set_work, keep, is_present}
+use Rattle.spec.specs.Check.{lines_of, check_script}
+use Rattle.spec.specs.Machine.{Machine, trace, fresh, fresh_of, Stop, stops, move, step, acting, unless_stopped}
 use Rattle.spec.specs.Ready.{MachineState, would_keep, fresh_state_of, state_step_of, state_after}
 use Rattle.spec.specs.Promise.{Accepted, after}
-use Rattle.turns.specs.Stations.{station_count, Four, four, pick, put, Station, Progress, started, station_at, instruction_for, is_stopped, passed_at, passed_over, left_at, left_after, station_step, with_pass, with_step, is_passed, turn, run_turns, at_station, ask_stations, question21, check_stations, running_stations}
+use Rattle.turns.specs.Stations.{Four, pick, put, Station, Progress, started, station_at, instruction_for, is_stopped, passed_at, passed_over, left_at, left_after, station_step, with_pass, with_step, is_passed, turn, run_turns, at_station, ask_stations, question21, check_stations}
 use Rattle.turns.specs.StationsPromise.{after_turns, presented, Able}
 use Rattle.spec.proofs.BoolLaws.{clash, decided, le_or_lt}
 use Rattle.spec.proofs.QuestionLaws.{both_passed}

@@ -2,7 +2,6 @@
 use mathlib.Core.Path.{sym, ap, ◌∙◌}
 use Rattle.spec.specs.Check.{check_script}
 use Rattle.rule.specs.Nodes.{form_by, stored_in}
-use borrow.Author.Rules.{rules}
 use Rattle.checker.proofs.check_either.Goals as goal
 
 pub returns-then-is_wide : goal.returns-then-is_wide

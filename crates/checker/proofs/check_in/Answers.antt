@@ -4,7 +4,6 @@ use Rattle.spec.proofs.QuestionLaws.{both_passed}
 use Rattle.rule.specs.Answers.{answer_of}
 use Rattle.checker.specs.Settled.{code_asked, belong_asked}
 use Rattle.checker.proofs.AskLaws.{rule_no, lines_no, notes_last}
-use borrow.Author.Rules.{rules}
 use Rattle.checker.proofs.check_in.Goals as goal
 
 pub returns-in_default : goal.returns-in_default

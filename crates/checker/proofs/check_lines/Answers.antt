@@ -11,7 +11,6 @@ use Rattle.script.proofs.StrideLaws.{annotated_is}
 use Rattle.checker.proofs.PassLaws.{few_nodes}
 use Rattle.checker.proofs.AskLaws.{grouped}
 use native.Mathlib.Omega.{arith}
-use borrow.Author.Rules.{rules}
 use Rattle.checker.proofs.check_lines.Goals as goal
 
 pub belonging-most-requires : goal.belonging-most-requires

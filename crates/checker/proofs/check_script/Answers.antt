@@ -2,7 +2,6 @@
 use mathlib.Core.Path.{◌∙◌}
 use Rattle.rule.proofs.WidenLaws.{table_length_lem}
 use Rattle.checker.proofs.AskLaws.{script_narrow, script_long}
-use borrow.Author.Rules.{rules}
 use Rattle.checker.proofs.check_script.Goals as goal
 
 pub returns-then-rule-gt32 : goal.returns-then-rule-gt32

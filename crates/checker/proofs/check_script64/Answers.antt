@@ -1,7 +1,6 @@
 -- `checker::check_script64` meets its contract: in the second form (`AskLaws`). Assumes nothing.
 use mathlib.Core.Path.{◌∙◌}
 use Rattle.checker.proofs.AskLaws.{script_wide}
-use borrow.Author.Rules.{rules}
 use Rattle.checker.proofs.check_script64.Goals as goal
 
 pub returns : goal.returns

@@ -1,7 +1,6 @@
 -- `facts::is_among` meets its contract: seven words, one test each (`FactSetLaws.among_words`). Assumes nothing.
 use Rattle.facts.specs.FactSets.{facts_of}
 use Rattle.facts.proofs.FactSetLaws.{among_words}
-use borrow.Author.Rules.{rules}
 use Rattle.facts.proofs.is_among.Goals as goal
 
 pub returns : goal.returns

@@ -5,7 +5,6 @@ use Rattle.spec.specs.Facts.{value_is, prior_is, kept_is_prior, work_is_next, wo
 use Rattle.spec.proofs.FactLaws.{facts_ext}
 use Rattle.facts.specs.FactSets.{facts_of}
 use Rattle.facts.proofs.FactSetLaws.{at_other, learn_first, learn_second}
-use borrow.Author.Rules.{rules}
 use Rattle.facts.proofs.learn_value.Goals as goal
 
 pub returns : goal.returns

@@ -2,7 +2,6 @@
 use mathlib.Core.Path.{◌∙◌}
 use Rattle.rule.proofs.WidenLaws.{table_length_lem}
 use Rattle.finder.proofs.FoundLaws.{instructions_narrow, instructions_long}
-use borrow.Author.Rules.{rules}
 use Rattle.finder.proofs.check_instructions.Goals as goal
 
 pub returns-then-rule-gt32 : goal.returns-then-rule-gt32

@@ -5,7 +5,6 @@ use Rattle.rule.specs.Nodes.{table_in}
 use Rattle.checker.proofs.PassLaws.{few_nodes}
 use Rattle.checker.proofs.AskLaws.{grouped}
 use Rattle.finder.proofs.FoundLaws.{rule_no, code_last}
-use borrow.Author.Rules.{rules}
 use Rattle.finder.proofs.check_instructions64.Goals as goal
 
 pub returns-in_default : goal.returns-in_default

@@ -1,7 +1,6 @@
 -- `finder::find_facts` meets its contract: the lines found for the rule moved (`FoundLaws`). Assumes nothing.
 use Rattle.rule.proofs.WidenLaws.{table_length_lem}
 use Rattle.finder.proofs.FoundLaws.{found_narrow, found_long}
-use borrow.Author.Rules.{rules}
 use Rattle.finder.proofs.find_facts.Goals as goal
 
 pub returns-then-rule-gt32 : goal.returns-then-rule-gt32

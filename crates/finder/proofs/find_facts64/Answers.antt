@@ -1,6 +1,5 @@
 -- `finder::find_facts64` meets its contract: in the second form (`FoundLaws`). Assumes nothing.
 use Rattle.finder.proofs.FoundLaws.{found_wide}
-use borrow.Author.Rules.{rules}
 use Rattle.finder.proofs.find_facts64.Goals as goal
 
 pub returns : goal.returns

@@ -6,7 +6,6 @@ use Rattle.finder.specs.Rows.{Asked}
 use Rattle.finder.proofs.FoundLaws.{seven_no, nineteen_no, room_no, all_yes, kept_found, count_found}
 use Rattle.finder.proofs.SearchLaws.{few_lines, room_all}
 use native.Mathlib.Omega.{arith}
-use borrow.Author.Rules.{rules}
 use Rattle.finder.proofs.find_lines.Goals as goal
 
 pub returns-in-Refused : goal.returns-in-Refused

@@ -6,7 +6,6 @@ use Rattle.spec.specs.Rule.{form32}
 use Rattle.spec.specs.Ready.{MachineState, fresh_state_of}
 use Rattle.numbers.specs.States.{state_words}
 use Rattle.numbers.proofs.NoteLaws.{room, no_room, words_room, words_no_room}
-use borrow.Author.Rules.{rules}
 use Rattle.guard.proofs.guard_fresh.Goals as goal
 
 pub returns-then-state-lt25 : goal.returns-then-state-lt25

@@ -1,10 +1,8 @@
 -- `guard::guard_step` meets its contract (`StateLaws`). Assumes nothing.
 use mathlib.Core.Path.{sym, ap, ◌∙◌}
-use borrow.Author.Tests.{not-true, not-false}
 use Rattle.spec.specs.Rule.{form32}
 use Rattle.spec.specs.Ready.{state_step_of}
 use Rattle.numbers.proofs.StateLaws.{step_short, step_large, step_made}
-use borrow.Author.Rules.{rules}
 use Rattle.guard.proofs.guard_step.Goals as goal
 
 pub returns-then-state-lt25 : goal.returns-then-state-lt25

@@ -1,14 +1,9 @@
 -- `layout::block_size` meets its contract. The loop keeps: the lines of the nodes below k are counted (`SizeLaws.counted_to`). Assumes nothing.
-use mathlib.Core.Path.{◌≡◌, ap, ◌∙◌}
-use Prim.Native.Nat.{◌+◌, ◌-◌, ◌≤◌}
-use lib.ListN.{length, get_or}
-use native.Mathlib.Omega.{arith}
-use Rattle.rule.specs.Nodes.{table_in, form_in}
-use borrow.Author.Rules.{rules}
-use Rattle.spec.specs.Rule.{last_node}
-use Rattle.spec.specs.Weaver.{decide_size}
-use Rattle.spec.proofs.RuleLaws.{length_table, rule_out}
-use Rattle.layout.proofs.SizeLaws.{counted_to, counted_none, counted_next, counted_all, counted_few, nodes_few, node_few}
+use mathlib.Core.Path.{◌≡◌}
+use Prim.Native.Nat.{◌-◌, ◌≤◌}
+use lib.ListN.{length}
+use Rattle.rule.specs.Nodes.{table_in}
+use Rattle.layout.proofs.SizeLaws.{counted_to}
 use Rattle.layout.proofs.block_size.Given as goal
 
 abbrev pub invariant-loop-k : goal.invariant-loop-k

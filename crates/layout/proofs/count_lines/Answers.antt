@@ -1,6 +1,5 @@
 -- `layout::count_lines` meets its contract: where the line after the last would start. Assumes nothing.
 use mathlib.Core.Path.{sym, ◌∙◌}
-use borrow.Author.Rules.{rules}
 use Rattle.spec.specs.Script.{bare_code}
 use Rattle.spec.proofs.WeaverLaws.{start_zero}
 use Rattle.layout.proofs.StartLaws.{start_end}

@@ -5,13 +5,13 @@ use Rattle.sets.specs.Sets.{set_of}
 use Rattle.spec.specs.Weaver.{size_from}
 use lib.ListN.{get_or}
 use mathlib.Core.Bool.{cond}
-use mathlib.Core.Path.{◌≡◌, refl, ◌∙◌, ap, sym}
-use Prim.Native.Nat.{◌-◌, ◌≤◌, ◌<◌}
+use mathlib.Core.Path.{refl, ◌∙◌, ap, sym}
+use Prim.Native.Nat.{◌<◌}
 use lib.ListN.{length, length-set}
 use native.Mathlib.Omega.{arith}
 use Rattle.rule.specs.Nodes.{table_in}
 use borrow.Author.Rules.{rules}
-use Rattle.layout.proofs.SizeLaws.{SizedTo, own_at, size_at, sized_next, nodes_few, own_few}
+use Rattle.layout.proofs.SizeLaws.{own_at, size_at, sized_next, nodes_few, own_few}
 use Rattle.layout.proofs.fill_sizes.Goals as goal
 
 pub loop-k-init : goal.loop-k-init

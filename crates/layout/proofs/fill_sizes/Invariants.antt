@@ -1,17 +1,10 @@
 -- `layout::fill_sizes` meets its contract. The loop keeps: the sizes of the nodes below k stand in the table (`SizeLaws.SizedTo`).
 -- Assumes nothing.
-use Rattle.rule.proofs.NodeLaws.{node_at_lem}
-use Rattle.sets.specs.Sets.{set_of}
-use Rattle.spec.specs.Weaver.{size_from}
-use lib.ListN.{get_or}
-use mathlib.Core.Bool.{cond}
-use mathlib.Core.Path.{◌≡◌, refl, ◌∙◌, ap, sym}
-use Prim.Native.Nat.{◌-◌, ◌≤◌, ◌<◌}
-use lib.ListN.{length, length-set}
-use native.Mathlib.Omega.{arith}
+use mathlib.Core.Path.{◌≡◌}
+use Prim.Native.Nat.{◌-◌, ◌≤◌}
+use lib.ListN.{length}
 use Rattle.rule.specs.Nodes.{table_in}
-use borrow.Author.Rules.{rules}
-use Rattle.layout.proofs.SizeLaws.{SizedTo, own_at, size_at, sized_next, nodes_few, own_few}
+use Rattle.layout.proofs.SizeLaws.{SizedTo}
 use Rattle.layout.proofs.fill_sizes.Given as goal
 
 abbrev pub invariant-loop-k : goal.invariant-loop-k

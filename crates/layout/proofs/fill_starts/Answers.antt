@@ -1,14 +1,12 @@
 -- `layout::fill_starts` meets its contract. The loop keeps: n is where line l starts, and the table has the starts below it (`StartLaws.Marked`).
 -- Assumes nothing.
 use mathlib.Core.Path.{◌≡◌, refl, sym, ap, ◌∙◌}
-use mathlib.Core.Logic.{⊎_elim}
-use Prim.Native.Nat.{◌+◌, ◌-◌, ◌/◌, ◌≤◌, ◌<◌}
+use Prim.Native.Nat.{◌+◌, ◌/◌, ◌<◌}
 use lib.ListN.{length, length-set}
 use native.Mathlib.Omega.{arith}
 use Rattle.rule.specs.Nodes.{table_in}
 use borrow.Author.Rules.{rules}
-use Rattle.spec.specs.Script.{bare_code, most_lines}
-use Rattle.spec.specs.Weaver.{start_of}
+use Rattle.spec.specs.Script.{bare_code}
 use Rattle.spec.proofs.WeaverLaws.{start_zero}
 use Rattle.layout.proofs.StartLaws.{start_step, bare_few, next_few, start_few, Marked, marked_next, marked_keep}
 use Rattle.layout.proofs.fill_starts.Goals as goal

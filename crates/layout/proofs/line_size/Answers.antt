@@ -2,7 +2,6 @@
 use Rattle.spec.specs.Script.{is_present, instruction_of, instruction_read}
 use mathlib.Core.Path.{sym, ap, ◌∙◌}
 use mathlib.Core.Bool.{cond}
-use borrow.Author.Rules.{rules}
 use Rattle.layout.proofs.line_size.Goals as goal
 
 pub returns-then-is_present : goal.returns-then-is_present

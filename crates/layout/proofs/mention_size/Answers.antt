@@ -3,7 +3,6 @@ use mathlib.Core.Path.{sym, ap, ◌∙◌}
 use mathlib.Core.Bool.{cond}
 use lib.ListN.{get_or}
 use Rattle.rule.specs.Nodes.{node_read}
-use borrow.Author.Rules.{rules}
 use Rattle.spec.specs.Weaver.{size_from}
 use Rattle.layout.proofs.mention_size.Goals as goal
 

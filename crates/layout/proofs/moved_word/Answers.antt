@@ -9,7 +9,6 @@ use Rattle.rule.specs.Nodes.{table_in}
 use Rattle.script.specs.Lines.{fields_in}
 use Rattle.layout.proofs.MoveLaws.{target_some, target_none, moved_word, unmoved_word}
 use Rattle.layout.proofs.StartLaws.{target_inside, start_few, word_fit}
-use borrow.Author.Rules.{rules}
 use Rattle.layout.proofs.moved_word.Goals as goal
 
 pub start_of-requires : goal.start_of-requires

@@ -8,7 +8,6 @@ use Rattle.rule.specs.Nodes.{node_read, NodeSmall}
 use Rattle.rule.proofs.NodeLaws.{node_at_lem}
 use Rattle.rule.proofs.TagLaws.{rest_not_past}
 use Rattle.layout.proofs.SizeLaws.{since_lines, weak_lines, own_small, shared_lines, no_lines}
-use borrow.Author.Rules.{rules}
 use Rattle.layout.proofs.node_lines.Goals as goal
 
 pub offset_bounds-sizes-right : goal.offset_bounds-sizes-right

@@ -5,7 +5,6 @@ use lib.ListN.{get_or}
 use native.Mathlib.Omega.{arith}
 use Rattle.spec.specs.Weaver.{size_from}
 use Rattle.rule.specs.Nodes.{node_read, NodeSmall}
-use borrow.Author.Rules.{rules}
 use Rattle.layout.proofs.node_size.Goals as goal
 
 pub offset_bounds-sizes-left : goal.offset_bounds-sizes-left

@@ -1,12 +1,11 @@
 -- `layout::start_after` meets its contract. The loop keeps: n is where line l starts, if `start` is where line `from` does. Assumes nothing.
 use mathlib.Core.Path.{◌≡◌, ap, ◌∙◌}
-use Prim.Native.Nat.{◌+◌, ◌*◌, ◌-◌, ◌≤◌, ◌<◌}
+use Prim.Native.Nat.{◌<◌}
 use lib.ListN.{length, get_or}
 use native.Mathlib.Omega.{arith}
 use borrow.Author.Rules.{rules}
-use Rattle.spec.specs.Rule.{Table}
-use Rattle.spec.specs.Script.{is_present, instruction_read, bare_code, most_lines}
-use Rattle.spec.specs.Weaver.{block_size, start_of}
+use Rattle.spec.specs.Script.{is_present, instruction_read, bare_code}
+use Rattle.spec.specs.Weaver.{start_of}
 use Rattle.layout.proofs.StartLaws.{step_few, start_step}
 use Rattle.layout.proofs.start_after.Goals as goal
 

@@ -1,7 +1,6 @@
 -- `layout::start_of` meets its contract: from the kept start on, lines are counted (`StartLaws.kept_start`). Assumes nothing.
 use native.Mathlib.Omega.{arith}
 use Rattle.rule.specs.Nodes.{table_in}
-use borrow.Author.Rules.{rules}
 use Rattle.layout.proofs.StartLaws.{bare_few, size_few, kept_start, kept_few}
 use Rattle.layout.proofs.start_of.Goals as goal
 

@@ -1,7 +1,6 @@
 -- `limits::judge` meets its contract (`WidenLaws`). Assumes nothing.
 use Rattle.rule.proofs.WidenLaws.{table_length_lem}
 use Rattle.limits.proofs.WidenLaws.{judged_holds, judged_long}
-use borrow.Author.Rules.{rules}
 use Rattle.limits.proofs.judge.Goals as goal
 
 pub returns-then-rule-gt32 : goal.returns-then-rule-gt32

@@ -3,7 +3,6 @@ use mathlib.Core.Path.{sym, ap, ◌∙◌}
 use Rattle.spec.specs.Rule.{form64}
 use Rattle.rule.specs.Answers.{answer_of}
 use Rattle.limits.proofs.AnswerLaws.{judged_no, judged_yes}
-use borrow.Author.Rules.{rules}
 use Rattle.limits.proofs.judge64.Goals as goal
 
 pub returns-in-Refused : goal.returns-in-Refused

@@ -4,7 +4,6 @@ use Rattle.spec.specs.Script.{fields_of}
 use Rattle.rule.proofs.EitherLaws.{size_most}
 use Rattle.machine.proofs.StepLaws.{run_beyond, run_at}
 use native.Mathlib.Omega.{arith}
-use borrow.Author.Rules.{rules}
 use Rattle.machine.proofs.can_run.Goals as goal
 
 pub returns-then-count_lines-l : goal.returns-then-count_lines-l

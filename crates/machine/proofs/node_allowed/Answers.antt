@@ -3,7 +3,6 @@ use mathlib.Core.Path.{sym, ap, ◌∙◌}
 use mathlib.Core.Bool.{◌&&◌}
 use Rattle.rule.specs.Nodes.{table_by}
 use Rattle.script.specs.Lines.{fields_in, register_named, is_named}
-use borrow.Author.Rules.{rules}
 use Rattle.machine.proofs.node_allowed.Goals as goal
 
 pub returns-in-Nothing : goal.returns-in-Nothing

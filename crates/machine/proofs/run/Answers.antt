@@ -1,10 +1,9 @@
 -- `machine::run` meets its contract: the run of the rule moved and the script (`AnswerLaws`). Assumes nothing.
-use mathlib.Core.Path.{refl, sym, ap}
+use mathlib.Core.Path.{refl}
 use Rattle.spec.specs.Rule.{form32}
 use Rattle.spec.specs.Questions.{refused}
 use Rattle.rule.proofs.WidenLaws.{table_length_lem}
 use Rattle.machine.proofs.AnswerLaws.{answered, running_narrow, running_long}
-use borrow.Author.Rules.{rules}
 use Rattle.machine.proofs.run.Goals as goal
 
 pub returns-then-rule-gt32 : goal.returns-then-rule-gt32

@@ -1,7 +1,6 @@
 -- `machine::run64` meets its contract: in the second form (`AnswerLaws`). Assumes nothing.
 use Rattle.spec.specs.Rule.{form64}
 use Rattle.machine.proofs.AnswerLaws.{answered, running_wide}
-use borrow.Author.Rules.{rules}
 use Rattle.machine.proofs.run64.Goals as goal
 
 pub returns : goal.returns

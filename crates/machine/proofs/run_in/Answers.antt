@@ -2,7 +2,6 @@
 use mathlib.Core.Path.{sym, ap, ◌∙◌}
 use Rattle.rule.specs.Answers.{answer_of}
 use Rattle.machine.proofs.AnswerLaws.{runnable, script_no, inputs_no, runs}
-use borrow.Author.Rules.{rules}
 use Rattle.machine.proofs.run_in.Goals as goal
 
 pub returns-in-Refused : goal.returns-in-Refused

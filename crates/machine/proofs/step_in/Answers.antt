@@ -2,7 +2,6 @@
 -- readiness (`StepLaws`, `ReadyLaws`). Assumes nothing.
 use mathlib.Core.Path.{refl, sym, ap, ◌∙◌}
 use native.Mathlib.Omega.{arith}
-use borrow.Author.Tests.{not-true, not-false}
 use Rattle.spec.specs.Machine.{acting}
 use Rattle.rule.specs.Nodes.{form_by, stored_in}
 use Rattle.rule.proofs.EitherLaws.{size_most}
@@ -10,7 +9,6 @@ use Rattle.script.proofs.LineLaws.{word_instruction, line_instruction}
 use Rattle.machine.specs.Machines.{machine_of, state_of, names_held}
 use Rattle.machine.proofs.StepLaws.{within_all, can_out}
 use Rattle.machine.proofs.ReadyLaws.{state_not, state_step}
-use borrow.Author.Rules.{rules}
 use Rattle.machine.proofs.step_in.Goals as goal
 
 pub can_run-requires : goal.can_run-requires

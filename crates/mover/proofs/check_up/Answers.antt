@@ -6,7 +6,6 @@ use Rattle.rule.specs.Answers.{answer_of}
 use Rattle.rule.proofs.WidenLaws.{table_length_lem}
 use Rattle.mover.proofs.MoverLaws.{few_old, up_passes, up_lines}
 use native.Mathlib.Omega.{arith}
-use borrow.Author.Rules.{rules}
 use Rattle.mover.proofs.check_up.Goals as goal
 
 pub returns-in_default : goal.returns-in_default

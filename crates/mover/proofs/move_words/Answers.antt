@@ -1,12 +1,9 @@
 -- `mover::move_words` meets its contract: the loop keeps: the first i words have moved (`MoverLaws`). Assumes nothing.
 use mathlib.Core.Bool.{not}
-use Prim.Native.Nat.{◌-◌, ◌≤◌}
-use lib.ListN.{length}
-use Rattle.rule.specs.Nodes.{stored_in, words_in}
+use Rattle.rule.specs.Nodes.{words_in}
 use Rattle.rule.proofs.EitherLaws.{length_by, size_same}
-use Rattle.mover.proofs.MoverLaws.{Moving, moving_start, moving_next, moving_end}
+use Rattle.mover.proofs.MoverLaws.{moving_start, moving_next, moving_end}
 use native.Mathlib.Omega.{arith}
-use borrow.Author.Rules.{rules}
 use Rattle.mover.proofs.move_words.Goals as goal
 
 pub loop-i-init : goal.loop-i-init

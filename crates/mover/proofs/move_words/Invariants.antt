@@ -1,12 +1,8 @@
 -- `mover::move_words` meets its contract: the loop keeps: the first i words have moved (`MoverLaws`). Assumes nothing.
 use mathlib.Core.Bool.{not}
 use Prim.Native.Nat.{◌-◌, ◌≤◌}
-use lib.ListN.{length}
-use Rattle.rule.specs.Nodes.{stored_in, words_in}
-use Rattle.rule.proofs.EitherLaws.{length_by, size_same}
-use Rattle.mover.proofs.MoverLaws.{Moving, moving_start, moving_next, moving_end}
-use native.Mathlib.Omega.{arith}
-use borrow.Author.Rules.{rules}
+use Rattle.rule.specs.Nodes.{words_in}
+use Rattle.mover.proofs.MoverLaws.{Moving}
 use Rattle.mover.proofs.move_words.Given as goal
 
 abbrev pub invariant-loop-i : goal.invariant-loop-i

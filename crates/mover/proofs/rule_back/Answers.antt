@@ -1,7 +1,7 @@
 -- `mover::rule_back` meets its contract: each return is one of the laws of `MoverLaws`. Assumes nothing.
 use mathlib.Core.Path.{sym, ap, ◌∙◌}
 use mathlib.Core.List.{◌++◌}
-use lib.ListN.{length, drop, length-map}
+use lib.ListN.{drop, length-map}
 use Rattle.spec.specs.Rule.{form64}
 use Rattle.moves.specs.Moves.{narrow_node, narrow_rule, check_back}
 use Rattle.spec.proofs.QuestionLaws.{then_refused}
@@ -10,7 +10,6 @@ use Rattle.moves.proofs.AnswerLaws.{back_in, back_many, back_answers}
 use Rattle.rule.specs.Answers.{answer_of}
 use Rattle.mover.proofs.MoverLaws.{refuses, too_short, moves}
 use native.Mathlib.Omega.{arith}
-use borrow.Author.Rules.{rules}
 use Rattle.mover.proofs.rule_back.Goals as goal
 
 pub returns-in-Refused : goal.returns-in-Refused

@@ -1,13 +1,12 @@
 -- `mover::rule_up` meets its contract: each return is one of the laws of `MoverLaws`. Assumes nothing.
 use mathlib.Core.Path.{sym, ap, ◌∙◌}
 use mathlib.Core.List.{◌++◌}
-use lib.ListN.{length, drop, length-map}
+use lib.ListN.{drop, length-map}
 use Rattle.moves.specs.Moves.{widen_node, widen_rule}
 use Rattle.moves.proofs.AnswerLaws.{up_answers}
 use Rattle.rule.specs.Answers.{answer_of}
 use Rattle.mover.proofs.MoverLaws.{refuses, too_short, moves}
 use native.Mathlib.Omega.{arith}
-use borrow.Author.Rules.{rules}
 use Rattle.mover.proofs.rule_up.Goals as goal
 
 pub returns-in-Refused : goal.returns-in-Refused

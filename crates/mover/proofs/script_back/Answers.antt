@@ -8,7 +8,6 @@ use Rattle.moves.proofs.AnswerLaws.{back_in, script_back_many, script_back_answe
 use Rattle.rule.specs.Answers.{answer_of}
 use Rattle.mover.proofs.MoverLaws.{refuses, too_short, moves, back_lines, back_words}
 use native.Mathlib.Omega.{arith}
-use borrow.Author.Rules.{rules}
 use Rattle.mover.proofs.script_back.Goals as goal
 
 pub returns-in-Refused : goal.returns-in-Refused

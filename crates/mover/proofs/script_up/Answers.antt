@@ -7,7 +7,6 @@ use Rattle.moves.proofs.AnswerLaws.{script_up_answers_lem}
 use Rattle.rule.specs.Answers.{answer_of}
 use Rattle.mover.proofs.MoverLaws.{refuses, too_short, moves, up_words}
 use native.Mathlib.Omega.{arith}
-use borrow.Author.Rules.{rules}
 use Rattle.mover.proofs.script_up.Goals as goal
 
 pub returns-in-Refused : goal.returns-in-Refused

@@ -2,7 +2,6 @@
 use native.Mathlib.Omega.{arith}
 use Rattle.print.proofs.AddedLaws.{front_length, at_start}
 use Rattle.picture.proofs.PictureLaws.{loaded_few, picture_is}
-use borrow.Author.Rules.{rules}
 use Rattle.picture.proofs.judge_file.Goals as goal
 
 pub slice_bounds-rule-end : goal.slice_bounds-rule-end

@@ -1,10 +1,8 @@
 -- `picture::put_file` meets its contract (`PictureLaws`). Assumes nothing.
 use mathlib.Core.Path.{sym, ap, ◌∙◌}
-use borrow.Author.Tests.{not-true, not-false}
 use Rattle.rule.specs.Answers.{answer_of}
 use Rattle.print.proofs.AddedLaws.{added_as}
 use Rattle.picture.proofs.PictureLaws.{file_no, file_few, file_judged}
-use borrow.Author.Rules.{rules}
 use Rattle.picture.proofs.put_file.Goals as goal
 
 pub returns-in-Refused : goal.returns-in-Refused

@@ -4,7 +4,6 @@ use Rattle.rule.proofs.WidenLaws.{table_holds, table_length_lem}
 use Rattle.print.proofs.AddedLaws.{added_as, front_length}
 use Rattle.picture.proofs.FileLaws.{whole_out}
 use Rattle.picture.proofs.PictureLaws.{few_nodes_32, loaded_text}
-use borrow.Author.Rules.{rules}
 use Rattle.picture.proofs.put_indices.Goals as goal
 
 pub widen_rule-requires : goal.widen_rule-requires

@@ -5,7 +5,6 @@ use Rattle.rule.specs.Answers.{counted_of}
 use Rattle.rule.specs.Nodes.{form_in}
 use Rattle.print.proofs.AddedLaws.{added_as}
 use Rattle.picture.proofs.PictureLaws.{limits_no, limits_yes, sets_asked, count_is}
-use borrow.Author.Rules.{rules}
 use Rattle.picture.proofs.put_limits.Goals as goal
 
 pub put_registers-requires : goal.put_registers-requires

@@ -1,10 +1,6 @@
 -- `print::add_bytes` meets its contract. The loop keeps: the first i bytes are written (`AddedLaws`); the measure is what is left of
 -- the text. Assumes nothing.
-use mathlib.Core.Path.{◌≡◌}
-use Prim.Native.Nat.{◌+◌, ◌-◌, ◌≤◌}
-use lib.ListN.{length, take}
 use borrow.Author.Rules.{rules}
-use Rattle.print.specs.Written.{Added}
 use Rattle.print.proofs.AddedLaws.{bytes_start, bytes_next, bytes_end}
 use Rattle.print.proofs.add_bytes.Goals as goal
 

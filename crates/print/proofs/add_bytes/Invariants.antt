@@ -3,9 +3,7 @@
 use mathlib.Core.Path.{◌≡◌}
 use Prim.Native.Nat.{◌+◌, ◌-◌, ◌≤◌}
 use lib.ListN.{length, take}
-use borrow.Author.Rules.{rules}
 use Rattle.print.specs.Written.{Added}
-use Rattle.print.proofs.AddedLaws.{bytes_start, bytes_next, bytes_end}
 use Rattle.print.proofs.add_bytes.Given as goal
 
 abbrev pub invariant-loop-i : goal.invariant-loop-i

@@ -1,6 +1,5 @@
 -- `print::add_refused` meets its contract: the word, the number and the place, one after another (`AddedLaws`). Assumes nothing.
 use native.Mathlib.Omega.{arith}
-use borrow.Author.Rules.{rules}
 use Rattle.print.specs.Decimal.{refused_text}
 use Rattle.print.proofs.AddedLaws.{filled_as, filled_then, filled_room}
 use Rattle.print.proofs.DecimalLaws.{number_filled, number_room}

@@ -9,7 +9,7 @@ use Rattle.rule.specs.Nodes.{form_in}
 use Rattle.intervals.proofs.LimitsLaws.{asked_out}
 use Rattle.limits.proofs.MonitorLaws.{few_held}
 use Rattle.limits.specs.Monitor.{cans_of}
-use Rattle.reasons.proofs.IndexLaws.{Told, told_start, told_next, told_end, in_output_lem, zeros}
+use Rattle.reasons.proofs.IndexLaws.{told_start, told_next, told_end, in_output_lem, zeros}
 use Rattle.reasons.proofs.put_registers.Goals as goal
 
 pub overflow_sub-last : goal.overflow_sub-last

@@ -1,15 +1,7 @@
 -- `reasons::put_registers` meets its contract (`IndexLaws`); before index i the output has the sets below i, and `earlier` and the priors are those after them. The measure is what is left to go through. Assumes nothing.
-use Prim.Native.Nat.{◌-◌, ◌+◌, ◌*◌}
-use mathlib.Core.Path.{◌≡◌, ap}
-use native.Mathlib.Omega.{arith}
-use lib.ListN.{take, drop, length-take, length-drop}
-use borrow.Author.Rules.{rules}
-use Rattle.spec.proofs.RuleLaws.{rule_out}
-use Rattle.rule.specs.Nodes.{form_in}
-use Rattle.intervals.proofs.LimitsLaws.{asked_out}
-use Rattle.limits.proofs.MonitorLaws.{few_held}
+use Prim.Native.Nat.{◌-◌}
 use Rattle.limits.specs.Monitor.{cans_of}
-use Rattle.reasons.proofs.IndexLaws.{Told, told_start, told_next, told_end, in_output_lem, zeros}
+use Rattle.reasons.proofs.IndexLaws.{Told}
 use Rattle.reasons.proofs.put_registers.Given as goal
 
 abbrev pub invariant-loop-i : goal.invariant-loop-i

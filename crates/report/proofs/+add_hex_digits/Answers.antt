@@ -1,8 +1,7 @@
 use mathlib.Core.Path.{◌≡◌, sym, subst}
 use native.Mathlib.Omega.{arith}
-use Rattle.std.proofs.Common.{◌+◌, ◌-◌, ◌/◌, ◌∷◌, [], ◌++◌, length, ℕ, slice_set}
+use Rattle.std.proofs.Common.{◌-◌, ◌/◌, ◌∷◌, [], ◌++◌, ℕ}
 use Rattle.report.specs.Digits.{last_digits}
-use Rattle.print.specs.Written.{Added}
 use Rattle.print.proofs.AddedLaws.{added_as, added_byte, added_length}
 use Rattle.report.proofs.DigitLaws.{digits_length, digits_next}
 use Rattle.report.proofs.+add_hex_digits.Goals as goal
@@ -27,5 +26,5 @@ returns t c =
     let room = c.requires in
     let some = c.if-count-eq0.false in
     added_as _ (last_digits 16 a.count a.n) a.at _ a.out.now _
-        (subst (λ (d : ℕ). before ++ (d ∷ []) ≡ last_digits 16 a.count a.n) (sym c.hex_digit.ensures) (digits_next 16 a.count a.n some))
-        (added_byte before a.at front.result c.hex_digit.result a.out.now front.new.out (omega arith) front.ensures)
+    (subst (λ (d : ℕ). before ++ (d ∷ []) ≡ last_digits 16 a.count a.n) (sym c.hex_digit.ensures) (digits_next 16 a.count a.n some))
+    (added_byte before a.at front.result c.hex_digit.result a.out.now front.new.out (omega arith) front.ensures)

@@ -1,7 +1,6 @@
 -- `report::add_node` meets its contract. Assumes nothing.
 use native.Mathlib.Omega.{arith}
 use Rattle.print.proofs.AddedLaws.{filled_as, filled_then, filled_room}
-use borrow.Author.Rules.{rules}
 use Rattle.report.proofs.add_node.Goals as goal
 
 pub add_bytes-requires : goal.add_bytes-requires

@@ -1,9 +1,7 @@
 -- `report::add_nodes` meets its contract: the nodes before i, one after another. Assumes nothing.
-use Prim.Native.Nat.{◌-◌, ◌*◌, ◌≤◌}
-use lib.ListN.{length}
 use mathlib.Core.Path.{◌≡◌, ap, ◌∙◌}
 use native.Mathlib.Omega.{arith}
-use Rattle.print.specs.Written.{Filled, each_of}
+use Rattle.print.specs.Written.{each_of}
 use Rattle.print.proofs.AddedLaws.{added_as, filled_room, each_start, each_next}
 use Rattle.report.proofs.NodeLaws.{node_at, nodes_all}
 use borrow.Author.Rules.{rules}

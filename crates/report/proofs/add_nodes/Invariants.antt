@@ -1,12 +1,9 @@
 -- `report::add_nodes` meets its contract: the nodes before i, one after another. Assumes nothing.
 use Prim.Native.Nat.{◌-◌, ◌*◌, ◌≤◌}
 use lib.ListN.{length}
-use mathlib.Core.Path.{◌≡◌, ap, ◌∙◌}
-use native.Mathlib.Omega.{arith}
+use mathlib.Core.Path.{◌≡◌}
 use Rattle.print.specs.Written.{Filled, each_of}
-use Rattle.print.proofs.AddedLaws.{added_as, filled_room, each_start, each_next}
-use Rattle.report.proofs.NodeLaws.{node_at, nodes_all}
-use borrow.Author.Rules.{rules}
+use Rattle.report.proofs.NodeLaws.{node_at}
 use Rattle.report.proofs.add_nodes.Given as goal
 
 abbrev pub invariant-loop-i : goal.invariant-loop-i

@@ -2,7 +2,6 @@
 use native.Mathlib.Omega.{arith}
 use Rattle.print.proofs.AddedLaws.{added_as, filled_then, filled_last}
 use Rattle.report.proofs.AnswerLaws.{reason_grammar, reason_range, reason_nodes}
-use borrow.Author.Rules.{rules}
 use Rattle.report.proofs.add_reason.Goals as goal
 
 pub returns-then-question-eq16 : goal.returns-then-question-eq16

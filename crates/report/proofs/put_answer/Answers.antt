@@ -4,7 +4,6 @@ use native.Mathlib.Omega.{arith}
 use Rattle.rule.specs.Answers.{counted_of}
 use Rattle.print.proofs.AddedLaws.{added_as, filled_last}
 use Rattle.report.proofs.AnswerLaws.{answer_refused, answer_few, answer_nodes}
-use borrow.Author.Rules.{rules}
 use Rattle.report.proofs.put_answer.Goals as goal
 
 pub add_nodes-requires : goal.add_nodes-requires

@@ -3,7 +3,6 @@ use mathlib.Core.Path.{ap, ◌∙◌}
 use native.Mathlib.Omega.{arith}
 use lib.Seq.{take-length}
 use Rattle.report.specs.Compiled.{without_last, text_in}
-use borrow.Author.Rules.{rules}
 use Rattle.report.proofs.text_length.Goals as goal
 
 pub returns : goal.returns

@@ -5,7 +5,6 @@ use mathlib.Core.List.{[]}
 use mathlib.Core.Path.{◌≡◌, sym, subst}
 use Rattle.report.specs.Compiled.{without_last}
 use Rattle.report.proofs.LastLaws.{last_none, last_same, last_other}
-use borrow.Author.Rules.{rules}
 use Rattle.report.proofs.without_last.Goals as goal
 
 pub returns-then-n-eq0 : goal.returns-then-n-eq0

@@ -2,7 +2,6 @@
 use mathlib.Core.Path.{sym, ap, ◌∙◌}
 use Rattle.spec.specs.Judging.{judged_part}
 use Rattle.rule.proofs.VerdictLaws.{breach_inside}
-use borrow.Author.Rules.{rules}
 use Rattle.rule.proofs.judge.Goals as goal
 
 pub judged-requires : goal.judged-requires

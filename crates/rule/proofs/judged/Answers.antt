@@ -1,11 +1,10 @@
 -- `rule::judged` meets its contract: a breach lies in the history, so the part is there. Assumes nothing.
 use Prim.Native.Nat.{◌+◌, ◌-◌, ◌*◌}
-use mathlib.Core.Path.{◌≡◌, refl, sym, ap, ◌∙◌}
+use mathlib.Core.Path.{◌≡◌, sym, ap, ◌∙◌}
 use native.Mathlib.Omega.{arith}
 use lib.ListN.{take, drop}
 use Rattle.spec.specs.Judging.{judged_part}
 use Rattle.rule.specs.Answers.{verdict_of}
-use borrow.Author.Rules.{rules}
 use Rattle.rule.proofs.judged.Goals as goal
 
 pub overflow_mul-at : goal.overflow_mul-at

@@ -3,7 +3,6 @@ use mathlib.Core.Path.{◌∙◌}
 use Rattle.spec.specs.Rule.{form32}
 use Rattle.rule.proofs.VerdictLaws.{right}
 use Rattle.rule.proofs.WidenLaws.{table_length_lem, judging_holds, judging_long}
-use borrow.Author.Rules.{rules}
 use Rattle.rule.proofs.verdict.Goals as goal
 
 pub returns-then-rule-gt32 : goal.returns-then-rule-gt32

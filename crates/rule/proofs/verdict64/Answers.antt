@@ -3,7 +3,6 @@ use mathlib.Core.Path.{sym, ap, ◌∙◌}
 use Rattle.rule.specs.Answers.{answer_of, found_of}
 use Rattle.rule.proofs.VerdictLaws.{rule_no, length_no, numbers_no, found_at, found_none, right}
 use Rattle.spec.specs.Rule.{form64}
-use borrow.Author.Rules.{rules}
 use Rattle.rule.proofs.verdict64.Goals as goal
 
 pub returns-in-Refused : goal.returns-in-Refused

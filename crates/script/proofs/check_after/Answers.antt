@@ -5,7 +5,6 @@ use Rattle.spec.specs.Script.{bare_opcode, check_code}
 use Rattle.spec.proofs.QuestionLaws.{first_no, go_on}
 use Rattle.rule.specs.Answers.{answer_of}
 use Rattle.script.proofs.StrideLaws.{bare_is}
-use borrow.Author.Rules.{rules}
 use Rattle.script.proofs.check_after.Goals as goal
 
 pub returns-in_default : goal.returns-in_default

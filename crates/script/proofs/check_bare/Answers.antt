@@ -3,7 +3,6 @@ use mathlib.Core.Path.{ap, ◌∙◌}
 use Rattle.spec.specs.Questions.{◌then◌}
 use Rattle.spec.specs.Rule.{form32, table_of}
 use Rattle.spec.specs.Script.{bare_opcode, bare_stored, check_code, check_bare}
-use borrow.Author.Rules.{rules}
 use Rattle.script.proofs.check_bare.Goals as goal
 
 pub returns : goal.returns

@@ -4,7 +4,6 @@ use lib.Bits.{bit_and}
 use lib.Count.{leading_le}
 use native.Mathlib.Omega.{arith}
 use Rattle.sets.proofs.WordLaws.{word_first}
-use borrow.Author.Rules.{rules}
 use Rattle.sets.proofs.first_from.Goals as goal
 
 pub overflow_cast-result : goal.overflow_cast-result

@@ -8,7 +8,6 @@ use Rattle.spec.proofs.BoolLaws.{clash, le_or_lt}
 use Rattle.spec.proofs.StoredLaws.{no_nodes_lem}
 use Rattle.sets.specs.Sets.{set_of, excluding}
 use Rattle.sets.proofs.WordLaws.{full_set}
-use borrow.Author.Rules.{rules}
 use Rattle.sets.proofs.first_missing.Goals as goal
 
 has_it : (a b : Bool) → a ≡ true → (a && not b) ≡ false → b ≡ true

@@ -1,7 +1,6 @@
 -- `sets::has` meets its contract (`WordLaws`). Assumes nothing.
 use borrow.Author.Tests.{lt-ltb, le-ltb}
 use Rattle.spec.specs.Check.{nodes_in}
-use borrow.Author.Rules.{rules}
 use Rattle.sets.proofs.has.Goals as goal
 
 pub returns-then-k-lt64 : goal.returns-then-k-lt64

@@ -1,7 +1,6 @@
 -- `sets::has_node` meets its contract. Assumes nothing.
 use borrow.Author.Tests.{lt-ltb}
 use Rattle.spec.specs.Check.{nodes_in}
-use borrow.Author.Rules.{rules}
 use Rattle.sets.proofs.has_node.Goals as goal
 
 pub returns : goal.returns

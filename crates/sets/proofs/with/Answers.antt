@@ -1,7 +1,6 @@
 -- `sets::with` meets its contract (`WordLaws`). Assumes nothing.
 use Rattle.sets.proofs.WordLaws.{word_set}
 use Rattle.sets.proofs.SetLaws.{adding_none}
-use borrow.Author.Rules.{rules}
 use Rattle.sets.proofs.with.Goals as goal
 
 pub returns-then-k-lt64 : goal.returns-then-k-lt64

@@ -1,8 +1,5 @@
 -- `sets::with_if` meets its contract (`WordLaws`). Assumes nothing.
-use mathlib.Core.Path.{◌≡◌, ap, sym, ◌∙◌}
 use Rattle.sets.proofs.SetLaws.{adding_not}
-use Rattle.sets.specs.Sets.{set_of, adding}
-use borrow.Author.Rules.{rules}
 use Rattle.sets.proofs.with_if.Goals as goal
 
 pub returns-then-when : goal.returns-then-when

@@ -1,6 +1,5 @@
 -- `sets::with_node_if` meets its contract (`WordLaws.word_set_if`). Assumes nothing.
 use Rattle.sets.proofs.WordLaws.{word_set_if}
-use borrow.Author.Rules.{rules}
 use Rattle.sets.proofs.with_node_if.Goals as goal
 
 pub returns : goal.returns

@@ -1,6 +1,5 @@
 -- `sets::without` meets its contract (`WordLaws`). Assumes nothing.
 use Rattle.sets.proofs.WordLaws.{word_clear, clear_none}
-use borrow.Author.Rules.{rules}
 use Rattle.sets.proofs.without.Goals as goal
 
 pub returns-then-k-lt64 : goal.returns-then-k-lt64

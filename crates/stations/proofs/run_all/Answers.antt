@@ -5,7 +5,6 @@ use Rattle.rule.specs.Answers.{answer_of}
 use Rattle.rule.specs.Nodes.{form_by}
 use Rattle.stations.specs.Views.{either_of, stations_of}
 use Rattle.stations.proofs.AnswerLaws.{scripts_no, inputs_no, all_ran}
-use borrow.Author.Rules.{rules}
 use Rattle.stations.proofs.run_all.Goals as goal
 
 pub returns-in-Refused : goal.returns-in-Refused

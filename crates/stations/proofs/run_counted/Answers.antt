@@ -6,7 +6,6 @@ use Rattle.machine.specs.declared.Machine.{Machine}
 use Rattle.stations.specs.Views.{either_of, stations_of, no_states}
 use Rattle.stations.proofs.AnswerLaws.{counted_refused, counted_ran}
 use Rattle.stations.proofs.SafeLaws.{four_safe}
-use borrow.Author.Rules.{rules}
 use Rattle.stations.proofs.run_counted.Goals as goal
 
 pub returns-then-count-ne4 : goal.returns-then-count-ne4

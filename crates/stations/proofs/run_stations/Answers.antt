@@ -1,9 +1,9 @@
 -- `stations::run_stations` meets its contract: other than four states are refused; of four, `run_all` says what their machines are, and they are
 -- stored back (`AnswerLaws.list_refused`, `list_ran`, `SafeLaws.list_safe`). Assumes nothing.
-use Rattle.std.proofs.Common.{◌≡◌, refl, subst, ℕ, List, [], ◌∷◌, length, get_or, arith}
+use Rattle.std.proofs.Common.{◌≡◌, refl, subst, List, [], ◌∷◌, length, get_or, arith}
 use Rattle.std.proofs.Math.ListN.{set}
 use borrow.Author.Tests.{eq-eqb, ne_eqb}
-use Rattle.turns.specs.Stations.{Four, four, running_stations}
+use Rattle.turns.specs.Stations.{four, running_stations}
 use Rattle.rule.specs.Nodes.{form_by}
 use Rattle.machine.specs.declared.Machine.{Machine}
 use Rattle.stations.specs.Views.{either_of, stations_of, states_of, four_in, Answered, ListAnswered}

@@ -2,10 +2,8 @@
 -- `CopyLaws`). What is left of them falls. Assumes nothing.
 use mathlib.Core.Path.{refl, ap, ◌∙◌}
 use mathlib.Core.List.{◌++◌, map-id}
-use Prim.Native.Nat.{◌-◌}
 use lib.ListN.{length, drop}
-use Rattle.rule.proofs.CopyLaws.{Copied, copied_start, copied_next, copied_room, copied_end}
-use borrow.Author.Rules.{rules}
+use Rattle.rule.proofs.CopyLaws.{copied_start, copied_next, copied_room, copied_end}
 use Rattle.text.proofs.copy_words.Goals as goal
 
 pub loop-i-init : goal.loop-i-init

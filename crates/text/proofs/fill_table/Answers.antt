@@ -2,7 +2,6 @@
 use mathlib.Core.Path.{sym, ap, ◌∙◌}
 use Rattle.rule.specs.Answers.{answer_of}
 use Rattle.text.proofs.AnswerLaws.{fills_grammar, fills_range, fills_many, fills_short, fills_count}
-use borrow.Author.Rules.{rules}
 use Rattle.text.proofs.fill_table.Goals as goal
 
 pub returns-in-Refused : goal.returns-in-Refused

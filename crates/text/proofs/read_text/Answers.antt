@@ -2,7 +2,6 @@
 use Rattle.spec.specs.Rule.{form32}
 use Rattle.spec.proofs.StoredLaws.{good32}
 use Rattle.text.proofs.AnswerLaws.{filled_inside, filled_length, filled_room, filled_narrow, narrow_words, reads_kept, reads_written}
-use borrow.Author.Rules.{rules}
 use Rattle.text.proofs.read_text.Goals as goal
 
 pub returns-in_default : goal.returns-in_default

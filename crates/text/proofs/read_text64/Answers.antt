@@ -2,7 +2,6 @@
 use Rattle.spec.specs.Rule.{form64}
 use Rattle.spec.proofs.StoredLaws.{good64}
 use Rattle.text.proofs.AnswerLaws.{filled_words, filled_inside, filled_length, filled_room, reads_kept, reads_written}
-use borrow.Author.Rules.{rules}
 use Rattle.text.proofs.read_text64.Goals as goal
 
 pub returns-in_default : goal.returns-in_default

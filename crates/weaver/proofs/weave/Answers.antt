@@ -1,7 +1,6 @@
 -- `weaver::weave` meets its contract: the rule moved weaves to the same lines (`WeaveLaws.wove_old`). Assumes nothing.
 use Rattle.rule.proofs.WidenLaws.{table_holds, table_length_lem}
 use Rattle.weaver.proofs.WeaveLaws.{many_no, wove_old}
-use borrow.Author.Rules.{rules}
 use Rattle.weaver.proofs.weave.Goals as goal
 
 pub returns-then-rule-gt32 : goal.returns-then-rule-gt32

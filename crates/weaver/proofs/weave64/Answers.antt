@@ -1,6 +1,5 @@
 -- `weaver::weave64` meets its contract: what the one body of code gives (`WeaveLaws.wove_new`). Assumes nothing.
 use Rattle.weaver.proofs.WeaveLaws.{wove_new}
-use borrow.Author.Rules.{rules}
 use Rattle.weaver.proofs.weave64.Goals as goal
 
 pub returns : goal.returns

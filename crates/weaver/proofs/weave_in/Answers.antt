@@ -7,7 +7,6 @@ use Rattle.rule.specs.Nodes.{table_in, form_in}
 use Rattle.weaver.proofs.NotedLaws.{shared_set}
 use Rattle.weaver.proofs.WeaveLaws.{few_nodes, rule_passed, bare_small, bare_no, lines_no, takes, output_no, all_yes}
 use native.Mathlib.Omega.{arith}
-use borrow.Author.Rules.{rules}
 use Rattle.weaver.proofs.weave_in.Goals as goal
 
 pub returns-in-Refused : goal.returns-in-Refused

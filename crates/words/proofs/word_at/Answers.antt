@@ -1,8 +1,6 @@
 -- `words::word_at` meets its contract: four bytes, high byte first. Assumes nothing.
 use Rattle.words.specs.Words.{word_at}
-use native.Mathlib.Omega.{arith}
 use borrow.Author.Tests.{lt-ltb, le-ltb}
-use borrow.Author.Rules.{rules}
 use Rattle.words.proofs.word_at.Goals as goal
 
 pub returns-then-i-s : goal.returns-then-i-s

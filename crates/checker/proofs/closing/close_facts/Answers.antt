@@ -2,14 +2,12 @@
 use Rattle.facts.specs.FactSets.{facts_of}
 use Rattle.rule.specs.Nodes.{table_in, form_in}
 use borrow.Author.Rules.{rules}
-use Prim.Native.Nat.{◌-◌, ◌≤◌}
 use mathlib.Core.Path.{◌≡◌, refl, ap, ◌∙◌}
 use native.Mathlib.Omega.{arith}
 use lib.ListN.{length}
 use Rattle.spec.proofs.RuleLaws.{length_table}
 use native.Mathlib.Numerals.{add-one}
 use Rattle.spec.specs.Facts.{close, close_node, close_below}
-use Rattle.sets.specs.Sets.{capacity}
 use Rattle.checker.proofs.closing.close_facts.Goals as goal
 
 pub loop-k-init : goal.loop-k-init

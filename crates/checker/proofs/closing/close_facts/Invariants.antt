@@ -1,14 +1,10 @@
 -- `checker::closing::close_facts` meets its contract: the loop keeps: the nodes below k are closed. Assumes nothing.
 use Rattle.facts.specs.FactSets.{facts_of}
-use Rattle.rule.specs.Nodes.{table_in, form_in}
-use borrow.Author.Rules.{rules}
+use Rattle.rule.specs.Nodes.{table_in}
 use Prim.Native.Nat.{◌-◌, ◌≤◌}
-use mathlib.Core.Path.{◌≡◌, refl, ap, ◌∙◌}
-use native.Mathlib.Omega.{arith}
+use mathlib.Core.Path.{◌≡◌}
 use lib.ListN.{length}
-use Rattle.spec.proofs.RuleLaws.{length_table}
-use native.Mathlib.Numerals.{add-one}
-use Rattle.spec.specs.Facts.{close, close_node, close_below}
+use Rattle.spec.specs.Facts.{close_below}
 use Rattle.sets.specs.Sets.{capacity}
 use Rattle.checker.proofs.closing.close_facts.Given as goal
 

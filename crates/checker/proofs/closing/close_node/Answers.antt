@@ -7,7 +7,6 @@ use Rattle.rule.proofs.NodeLaws.{node_at_lem}
 use Rattle.spec.proofs.MonitorLaws.{since_same}
 use Rattle.facts.specs.FactSets.{facts_of}
 use Rattle.checker.proofs.CloseLaws.{close_test, close_known}
-use borrow.Author.Rules.{rules}
 use Rattle.checker.proofs.closing.close_node.Goals as goal
 
 pub returns-in-False : goal.returns-in-False

@@ -4,7 +4,6 @@ use Rattle.spec.specs.Facts.{first_facts, close}
 use Rattle.sets.proofs.SetLaws.{empty_is}
 use Rattle.facts.proofs.GroupLaws.{past_is, first_is}
 use Rattle.rule.specs.Nodes.{table_in}
-use borrow.Author.Rules.{rules}
 use Rattle.checker.proofs.closing.first_facts.Goals as goal
 
 pub returns : goal.returns

@@ -2,7 +2,6 @@
 use mathlib.Core.Path.{sym, ap, ◌∙◌}
 use Rattle.spec.specs.Facts.{prior_is}
 use Rattle.facts.specs.FactSets.{facts_of}
-use borrow.Author.Rules.{rules}
 use Rattle.checker.proofs.passing.knows_prior.Goals as goal
 
 pub returns-then-bit : goal.returns-then-bit

@@ -3,7 +3,6 @@ use mathlib.Core.Path.{ap, ◌∙◌}
 use Rattle.spec.specs.Facts.{prior_is, ◌∪◌, one, provided, learned}
 use Rattle.facts.specs.FactSets.{facts_of}
 use Rattle.checker.proofs.PassLaws.{told_is}
-use borrow.Author.Rules.{rules}
 use Rattle.checker.proofs.passing.learn_kept.Goals as goal
 
 pub returns : goal.returns

@@ -8,7 +8,6 @@ use Rattle.sets.specs.Sets.{Nodes}
 use Rattle.facts.specs.FactSets.{facts_of}
 use Rattle.rule.specs.Nodes.{test_of, table_in}
 use Rattle.checker.proofs.PassLaws.{test_same, test_other}
-use borrow.Author.Rules.{rules}
 use Rattle.checker.proofs.passing.learn_test.Goals as goal
 
 pub returns-then-taken : goal.returns-then-taken

@@ -5,7 +5,6 @@ use Prim.Native.Nat.{ℕ}
 use Rattle.spec.specs.Facts.{value_is, prior_is, Facts, ◌∪◌, one, provided, learned}
 use Rattle.facts.specs.FactSets.{facts_of}
 use Rattle.checker.proofs.PassLaws.{told_is, told_both, next_small}
-use borrow.Author.Rules.{rules}
 use Rattle.checker.proofs.passing.learn_work.Goals as goal
 
 pub learn_value-y-requires : goal.learn_value-y-requires

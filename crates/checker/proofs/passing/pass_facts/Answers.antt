@@ -8,7 +8,6 @@ use Rattle.facts.specs.FactSets.{facts_of}
 use Rattle.rule.specs.Nodes.{table_in}
 use Rattle.script.specs.Lines.{fields_in, instruction_in}
 use Rattle.checker.proofs.PassLaws.{named_small, work_small, names_by, pass_by}
-use borrow.Author.Rules.{rules}
 use Rattle.checker.proofs.passing.pass_facts.Goals as goal
 
 pub pass_set-requires : goal.pass_set-requires

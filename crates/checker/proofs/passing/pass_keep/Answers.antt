@@ -3,7 +3,6 @@ use mathlib.Core.Path.{refl, ap, ◌∙◌}
 use Rattle.sets.specs.Sets.{adding}
 use Rattle.facts.specs.FactSets.{facts_of}
 use Rattle.checker.proofs.PassLaws.{keep_is}
-use borrow.Author.Rules.{rules}
 use Rattle.checker.proofs.passing.pass_keep.Goals as goal
 
 pub returns : goal.returns

@@ -5,7 +5,6 @@ use Rattle.spec.specs.Facts.{close, pass}
 use Rattle.rule.specs.Nodes.{table_in}
 use Rattle.facts.specs.FactSets.{facts_of}
 use Rattle.checker.proofs.PassLaws.{few_nodes, ordered, stays_closed}
-use borrow.Author.Rules.{rules}
 use Rattle.checker.proofs.passing.pass_on.Goals as goal
 
 pub pass_facts-y-requires : goal.pass_facts-y-requires

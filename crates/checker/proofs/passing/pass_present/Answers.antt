@@ -1,15 +1,14 @@
 -- `checker::passing::pass_present` meets its contract: the loop keeps: the three sets have the nodes below k (`PassLaws.present_is`). Assumes nothing.
-use Rattle.facts.proofs.GroupLaws.{Gathered, gather_start, gather_next, gather_end}
+use Rattle.facts.proofs.GroupLaws.{gather_start, gather_next, gather_end}
 use Rattle.facts.specs.FactSets.{facts_of}
 use Rattle.rule.specs.Nodes.{table_in, form_in}
 use borrow.Author.Rules.{rules}
-use Prim.Native.Nat.{◌-◌, ◌≤◌}
 use mathlib.Core.Path.{◌≡◌, sym, ap, ap₂, ◌∙◌}
 use native.Mathlib.Omega.{arith}
 use lib.ListN.{length}
 use Rattle.spec.specs.Rule.{node_at, is_past, next_of}
 use Rattle.spec.proofs.RuleLaws.{length_table, past_in}
-use Rattle.sets.specs.Sets.{capacity, set_of}
+use Rattle.sets.specs.Sets.{set_of}
 use Rattle.rule.proofs.NodeLaws.{node_at_lem}
 use mathlib.Core.Bool.{◌&&◌}
 use Rattle.spec.proofs.BoolLaws.{and_both}

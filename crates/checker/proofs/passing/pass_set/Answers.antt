@@ -5,7 +5,6 @@ use Rattle.sets.specs.Sets.{adding}
 use Rattle.facts.specs.FactSets.{facts_of}
 use Rattle.rule.specs.Nodes.{table_in}
 use Rattle.checker.proofs.PassLaws.{set_is}
-use borrow.Author.Rules.{rules}
 use Rattle.checker.proofs.passing.pass_set.Goals as goal
 
 pub returns : goal.returns

@@ -1,17 +1,11 @@
 -- `checker::passing::test_nodes` meets its contract: the loop keeps: the set has the nodes below k (`GroupLaws.Gathered`). Assumes nothing.
-use Rattle.facts.proofs.GroupLaws.{Gathered, gather_start, gather_next, gather_end}
-use Rattle.rule.specs.Nodes.{test_of, table_in, form_in}
-use borrow.Author.Rules.{rules}
+use Rattle.facts.proofs.GroupLaws.{Gathered}
+use Rattle.rule.specs.Nodes.{test_of, table_in}
 use Prim.Native.Nat.{◌-◌, ◌≤◌}
-use mathlib.Core.Path.{◌≡◌, sym, ap, ◌∙◌}
-use native.Mathlib.Omega.{arith}
 use lib.ListN.{length}
 use Rattle.spec.specs.Rule.{node_at}
-use Rattle.spec.proofs.RuleLaws.{length_table}
 use Rattle.sets.specs.Sets.{capacity}
-use Rattle.rule.proofs.NodeLaws.{node_at_lem}
 use Rattle.spec.specs.Facts.{is_test}
-use Rattle.checker.proofs.PassLaws.{test_in}
 use Rattle.checker.proofs.passing.test_nodes.Given as goal
 
 abbrev pub invariant-loop-k : goal.invariant-loop-k

@@ -1,20 +1,16 @@
 -- `checker::question::ask_belonging` meets its contract: the loop is a scan for the lowest failing place (`QuestionLaws`, `AskLaws`). Assumes nothing.
 use Prim.Native.Nat.{ℕ, ◌-◌, ◌/◌}
-use mathlib.Core.Path.{◌≡◌, sym, ◌∙◌}
+use mathlib.Core.Path.{◌≡◌}
 use mathlib.Core.Bool.{Bool}
 use mathlib.Core.List.{List}
 use lib.ListN.{length}
-use borrow.Author.Tests.{not-true, not-false}
 use Rattle.spec.specs.Rule.{Table}
 use Rattle.spec.specs.Facts.{belongs}
-use Rattle.spec.specs.Check.{facts_belong, question8}
-use Rattle.spec.proofs.QuestionLaws.{Scanned, scanned_start, scanned_next, scan_no, scan_yes}
+use Rattle.spec.specs.Check.{facts_belong}
+use Rattle.spec.proofs.QuestionLaws.{Scanned}
 use Rattle.rule.specs.Nodes.{form_by, stored_in}
 use Rattle.script.specs.Lines.{line_in}
 use Rattle.facts.specs.FactSets.{facts_of}
-use Rattle.checker.proofs.AskLaws.{asked_lines, belong_at}
-use native.Mathlib.Omega.{arith}
-use borrow.Author.Rules.{rules}
 use Rattle.checker.proofs.question.ask_belonging.Given as goal
 
 abbrev pub ok : Table → (b : Bool) (narrow wide : List ℕ) → ℕ → Bool

@@ -1,11 +1,9 @@
 -- `checker::question::ask_first` meets its contract: one test. Assumes nothing.
 use mathlib.Core.Path.{sym, ◌∙◌}
-use borrow.Author.Tests.{not-true, not-false}
 use Rattle.spec.specs.Check.{question9}
 use Rattle.spec.proofs.QuestionLaws.{once_in, once_no}
 use Rattle.checker.proofs.PassLaws.{few_nodes}
 use Rattle.checker.proofs.AskLaws.{some_line, among_at}
-use borrow.Author.Rules.{rules}
 use Rattle.checker.proofs.question.ask_first.Goals as goal
 
 pub read_facts-requires : goal.read_facts-requires

@@ -1,20 +1,9 @@
 -- `checker::question::ask_known` meets its contract: the loop keeps: the lines below l pass (`QuestionLaws.Scanned`). Assumes nothing.
-use Rattle.rule.specs.Nodes.{table_in}
-use Rattle.script.specs.Lines.{line_in}
 use native.Mathlib.Omega.{arith}
-use Rattle.rule.specs.Nodes.{stored_in}
-use borrow.Author.Rules.{rules}
-use Prim.Native.Nat.{◌-◌, ◌/◌, ◌≤◌, ◌<◌}
 use mathlib.Core.Path.{sym, ◌∙◌}
-use mathlib.Core.Bool.{Bool}
-use Prim.Native.Nat.{ℕ}
-use mathlib.Core.List.{List}
-use lib.ListN.{length}
-use borrow.Author.Tests.{not-true, not-false}
-use Rattle.spec.proofs.QuestionLaws.{Scanned, scanned_start, scanned_next, scan_no, scan_yes}
+use Rattle.spec.proofs.QuestionLaws.{scanned_start, scanned_next, scan_no, scan_yes}
 use Rattle.checker.proofs.AskLaws.{asked_lines}
-use Rattle.spec.specs.Check.{present_known, question10}
-use Rattle.sets.specs.Sets.{capacity}
+use Rattle.spec.specs.Check.{question10}
 use Rattle.checker.proofs.question.ask_known.Invariants.{ok}
 use Rattle.checker.proofs.question.ask_known.Goals as goal
 

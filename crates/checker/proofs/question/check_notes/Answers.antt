@@ -3,7 +3,6 @@ use mathlib.Core.Path.{sym, ap, ◌∙◌}
 use Rattle.rule.specs.Answers.{answer_of}
 use Rattle.checker.proofs.PassLaws.{few_nodes}
 use Rattle.checker.proofs.AskLaws.{some_node, no_9, no_10, last_11}
-use borrow.Author.Rules.{rules}
 use Rattle.checker.proofs.question.check_notes.Goals as goal
 
 pub ask_first-first-requires : goal.ask_first-first-requires

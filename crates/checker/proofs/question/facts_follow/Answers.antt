@@ -4,7 +4,6 @@ use Rattle.spec.specs.Facts.{close}
 use Rattle.rule.specs.Nodes.{table_in}
 use Rattle.checker.proofs.PassLaws.{few_nodes}
 use Rattle.checker.proofs.AskLaws.{follow_is}
-use borrow.Author.Rules.{rules}
 use Rattle.checker.proofs.question.facts_follow.Goals as goal
 
 pub close_facts-x-requires : goal.close_facts-x-requires

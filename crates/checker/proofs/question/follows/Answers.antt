@@ -6,7 +6,6 @@ use mathlib.Core.Path.{◌∙◌, ap}
 use Rattle.facts.specs.FactSets.{facts_of}
 use Rattle.script.proofs.LineLaws.{word_instruction}
 use Rattle.checker.proofs.AskLaws.{line_names, among_at, closed_again, passed_is}
-use borrow.Author.Rules.{rules}
 use Rattle.checker.proofs.question.follows.Goals as goal
 
 pub pass_on-requires : goal.pass_on-requires

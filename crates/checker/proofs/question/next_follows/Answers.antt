@@ -6,7 +6,6 @@ use Rattle.script.proofs.LineLaws.{line_instruction}
 use Rattle.checker.proofs.AskLaws.{next_in, next_yes, next_no}
 use native.Mathlib.Omega.{arith}
 use Rattle.rule.proofs.EitherLaws.{size_most}
-use borrow.Author.Rules.{rules}
 use Rattle.checker.proofs.question.next_follows.Goals as goal
 
 pub overflow_add-l : goal.overflow_add-l

@@ -10,7 +10,6 @@ use Rattle.script.specs.Lines.{line_in}
 use Rattle.spec.specs.Script.{is_present}
 use Rattle.script.proofs.LineLaws.{line_instruction}
 use Rattle.checker.proofs.AskLaws.{present_yes, present_no}
-use borrow.Author.Rules.{rules}
 use Rattle.checker.proofs.question.present_known.Goals as goal
 
 pub returns-then-is_present : goal.returns-then-is_present

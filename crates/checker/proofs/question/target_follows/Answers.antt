@@ -3,7 +3,6 @@ use Rattle.spec.specs.Script.{target_of}
 use mathlib.Core.Path.{ap, ◌∙◌}
 use Rattle.script.proofs.LineLaws.{line_instruction}
 use Rattle.checker.proofs.AskLaws.{target_in, target_is, target_yes, target_no}
-use borrow.Author.Rules.{rules}
 use Rattle.checker.proofs.question.target_follows.Goals as goal
 
 pub follows-requires : goal.follows-requires

@@ -3,7 +3,6 @@
 use Rattle.spec.specs.Rule.{table_of}
 use Rattle.rule.specs.Nodes.{form_in}
 use Rattle.facts.proofs.GroupLaws.{past_is, work_nodes, belonging_is}
-use borrow.Author.Rules.{rules}
 use Rattle.facts.proofs.belonging.belonging.Goals as goal
 
 pub returns : goal.returns

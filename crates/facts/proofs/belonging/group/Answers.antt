@@ -5,7 +5,7 @@ use mathlib.Core.Bool.{true}
 use borrow.Author.Tests.{ltb-true, lt-ltb}
 use Rattle.rule.proofs.NodeLaws.{node_at_lem}
 use Rattle.facts.proofs.GroupLaws.{since_in, weak_in}
-use Prim.Native.Nat.{◌-◌, ◌≤◌, ◌<◌}
+use Prim.Native.Nat.{◌<◌}
 use mathlib.Core.Path.{◌≡◌, sym, ap, ◌∙◌}
 use native.Mathlib.Omega.{arith}
 use lib.ListN.{length}
@@ -14,8 +14,7 @@ use Rattle.spec.proofs.RuleLaws.{length_table}
 use mathlib.Core.Path.{◌≡◌}
 use lib.Dec.{ltb}
 use Rattle.spec.specs.Rule.{table_of, node_at, is_since, is_weak_previous}
-use Rattle.sets.specs.Sets.{capacity}
-use Rattle.facts.proofs.GroupLaws.{Gathered, gather_start, gather_next, gather_end}
+use Rattle.facts.proofs.GroupLaws.{gather_start, gather_next, gather_end}
 use Rattle.facts.proofs.belonging.group.Goals as goal
 
 pub loop-k-init : goal.loop-k-init

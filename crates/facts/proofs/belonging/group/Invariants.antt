@@ -1,21 +1,12 @@
 -- `facts::belonging::group` meets its contract: the loop keeps: the sets have the nodes below k (`GroupLaws.Gathered`). Assumes nothing.
 use Rattle.rule.specs.Nodes.{form_in}
-use borrow.Author.Rules.{rules}
-use mathlib.Core.Bool.{true}
-use borrow.Author.Tests.{ltb-true, lt-ltb}
-use Rattle.rule.proofs.NodeLaws.{node_at_lem}
-use Rattle.facts.proofs.GroupLaws.{since_in, weak_in}
-use Prim.Native.Nat.{◌-◌, ◌≤◌, ◌<◌}
-use mathlib.Core.Path.{◌≡◌, sym, ap, ◌∙◌}
-use native.Mathlib.Omega.{arith}
+use Prim.Native.Nat.{◌-◌, ◌≤◌}
 use lib.ListN.{length}
 use Rattle.spec.specs.Rule.{table_of}
-use Rattle.spec.proofs.RuleLaws.{length_table}
-use mathlib.Core.Path.{◌≡◌}
 use lib.Dec.{ltb}
 use Rattle.spec.specs.Rule.{table_of, node_at, is_since, is_weak_previous}
 use Rattle.sets.specs.Sets.{capacity}
-use Rattle.facts.proofs.GroupLaws.{Gathered, gather_start, gather_next, gather_end}
+use Rattle.facts.proofs.GroupLaws.{Gathered}
 use Rattle.facts.proofs.belonging.group.Given as goal
 
 abbrev pub invariant-loop-k : goal.invariant-loop-k

@@ -1,14 +1,12 @@
 -- `facts::line::put_four` meets its contract: one word after another (`PutLaws`). Assumes nothing.
-use mathlib.Core.Path.{refl, sym, ap, ◌∙◌}
-use mathlib.Core.List.{[], ◌∷◌, map}
-use Prim.Native.Nat.{◌+◌, ◌*◌}
+use mathlib.Core.Path.{refl}
+use mathlib.Core.List.{[], ◌∷◌}
+use Prim.Native.Nat.{◌+◌}
 use Rattle.rule.specs.Nodes.{word_by}
 use Rattle.rule.proofs.EitherLaws.{size_most}
 use Rattle.rule.proofs.PutLaws.{put_then, put_as}
-use Rattle.facts.specs.Written.{set_stored, stored_line}
-use Rattle.facts.proofs.OverLaws.{set_word, first_word}
+use Rattle.facts.proofs.OverLaws.{set_word}
 use native.Mathlib.Omega.{arith}
-use borrow.Author.Rules.{rules}
 use Rattle.facts.proofs.line.put_four.Goals as goal
 
 pub put_word-requires : goal.put_word-requires

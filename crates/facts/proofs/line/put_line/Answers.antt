@@ -2,14 +2,12 @@
 use mathlib.Core.Path.{refl, sym, ap, ◌∙◌}
 use mathlib.Core.List.{[], ◌∷◌, map}
 use Prim.Native.Nat.{◌+◌, ◌*◌}
-use Rattle.rule.specs.Nodes.{word_by}
 use Rattle.rule.proofs.EitherLaws.{size_most}
 use Rattle.rule.proofs.PutLaws.{put_then, put_as}
 use Rattle.facts.specs.Written.{set_stored, stored_line}
 use Rattle.facts.proofs.OverLaws.{set_word, first_word}
 use Rattle.moves.specs.Moves.{widen_word}
 use native.Mathlib.Omega.{arith}
-use borrow.Author.Rules.{rules}
 use Rattle.facts.proofs.line.put_line.Goals as goal
 
 pub overflow_mul-i : goal.overflow_mul-i

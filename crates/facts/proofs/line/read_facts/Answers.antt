@@ -5,7 +5,6 @@ use Rattle.spec.specs.Facts.{value_is, prior_is, kept_is_prior, work_is_next, wo
 use Rattle.spec.proofs.FactLaws.{facts_ext}
 use Rattle.rule.specs.Nodes.{form_by, stored_in}
 use Rattle.spec.proofs.StoredLaws.{facts_of_lem}
-use borrow.Author.Rules.{rules}
 use Rattle.facts.proofs.line.read_facts.Goals as goal
 
 pub returns : goal.returns

@@ -5,7 +5,6 @@ use Rattle.sets.specs.Sets.{set_of}
 use Rattle.rule.proofs.EitherLaws.{size_most}
 use Rattle.facts.proofs.OverLaws.{set_read}
 use native.Mathlib.Omega.{arith}
-use borrow.Author.Rules.{rules}
 use Rattle.facts.proofs.line.read_set.Goals as goal
 
 pub overflow_mul-l : goal.overflow_mul-l

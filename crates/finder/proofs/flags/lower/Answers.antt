@@ -1,5 +1,4 @@
 -- `finder::flags::lower` meets its contract (`FlagLaws.lowered`). Assumes nothing.
-use borrow.Author.Rules.{rules}
 use Rattle.finder.proofs.FlagLaws.{lowered}
 use Rattle.finder.proofs.flags.lower.Goals as goal
 

@@ -1,8 +1,6 @@
 -- `finder::flags::next_flag` meets its contract. The loop keeps: no line before l has a flag (`FlagLaws.Looking`). Assumes nothing.
-use borrow.Author.Rules.{rules}
 use Prim.Native.Nat.{◌-◌}
-use native.Mathlib.Omega.{arith}
-use Rattle.finder.proofs.FlagLaws.{Looking, looking_start, looking_found, looking_on, looking_end}
+use Rattle.finder.proofs.FlagLaws.{Looking}
 use Rattle.finder.proofs.flags.next_flag.Given as goal
 
 abbrev pub invariant-loop-l : goal.invariant-loop-l

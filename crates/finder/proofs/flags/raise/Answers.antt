@@ -1,5 +1,4 @@
 -- `finder::flags::raise` meets its contract (`FlagLaws.raised`). Assumes nothing.
-use borrow.Author.Rules.{rules}
 use Rattle.finder.proofs.FlagLaws.{raised}
 use Rattle.finder.proofs.flags.raise.Goals as goal
 

@@ -1,15 +1,7 @@
 -- `finder::known::ask_known` meets its contract. The loop keeps: the lines below l pass (`QuestionLaws.Scanned`). Assumes nothing.
-use Rattle.rule.specs.Nodes.{table_in, form_in}
-use borrow.Author.Rules.{rules}
-use Prim.Native.Nat.{ℕ, ◌-◌}
 use mathlib.Core.Path.{sym, ◌∙◌}
-use mathlib.Core.Bool.{Bool}
-use mathlib.Core.List.{List}
-use lib.ListN.{length}
-use borrow.Author.Tests.{not-true, not-false}
-use Rattle.spec.specs.Check.{line_at, present_known}
-use Rattle.largest.specs.Largest.{found_lines, question19}
-use Rattle.spec.proofs.QuestionLaws.{Scanned, scanned_start, scanned_next, scan_no, scan_yes}
+use Rattle.largest.specs.Largest.{question19}
+use Rattle.spec.proofs.QuestionLaws.{scanned_start, scanned_next, scan_no, scan_yes}
 use Rattle.finder.proofs.known.ask_known.Invariants.{ok}
 use Rattle.finder.proofs.known.ask_known.Goals as goal
 

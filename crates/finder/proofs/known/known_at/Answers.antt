@@ -4,7 +4,6 @@ use mathlib.Core.Path.{ap, ◌∙◌}
 use mathlib.Core.Bool.{true}
 use Prim.Native.Nat.{◌-◌}
 use lib.ListN.{length}
-use borrow.Author.Rules.{rules}
 use Rattle.spec.specs.Facts.{value_is, Facts}
 use Rattle.finder.proofs.SearchLaws.{some_node}
 use Rattle.finder.proofs.FoundLaws.{known_yes, known_no}

@@ -1,5 +1,4 @@
 -- `finder::lines::count_facts` meets its contract: seven counts of at most 64. Assumes nothing.
-use borrow.Author.Rules.{rules}
 use native.Mathlib.Omega.{arith}
 use Rattle.largest.specs.Largest.{facts_in}
 use Rattle.finder.proofs.lines.count_facts.Goals as goal

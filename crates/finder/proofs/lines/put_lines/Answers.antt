@@ -1,10 +1,8 @@
 -- `finder::lines::put_lines` meets its contract: the loop keeps: the first l lines are written and their facts counted (`FoundLaws.Writing`). Assumes nothing.
-use mathlib.Core.Path.{◌≡◌, refl, sym, subst, ap, ◌∙◌}
-use Prim.Native.Nat.{◌-◌, ◌*◌, ◌≤◌}
+use mathlib.Core.Path.{◌≡◌}
 use lib.ListN.{length}
-use Rattle.rule.specs.Nodes.{stored_in}
 use Rattle.rule.proofs.EitherLaws.{size_same}
-use Rattle.finder.proofs.FoundLaws.{Writing, writing_start, writing_next}
+use Rattle.finder.proofs.FoundLaws.{writing_start, writing_next}
 use native.Mathlib.Omega.{arith}
 use borrow.Author.Rules.{rules}
 use Rattle.finder.proofs.lines.put_lines.Goals as goal

@@ -1,9 +1,6 @@
 -- `finder::rows::cut` meets its contract. The loop keeps: the first j words are met (`RowLaws.Meeting`); seven words are left to meet, less j. Assumes nothing.
-use borrow.Author.Rules.{rules}
 use Prim.Native.Nat.{◌≤◌, ◌-◌}
-use mathlib.Core.Path.{◌≡◌}
-use native.Mathlib.Omega.{arith}
-use Rattle.finder.proofs.RowLaws.{Meeting, meeting_start, meeting_next, cut_same, cut_changed}
+use Rattle.finder.proofs.RowLaws.{Meeting}
 use Rattle.finder.proofs.rows.cut.Given as goal
 
 abbrev pub invariant-loop-j : goal.invariant-loop-j

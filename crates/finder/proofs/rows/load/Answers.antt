@@ -1,5 +1,4 @@
 -- `finder::rows::load` meets its contract: a line read (`RowLaws.loaded`). Assumes nothing.
-use borrow.Author.Rules.{rules}
 use Rattle.finder.proofs.RowLaws.{loaded}
 use Rattle.finder.proofs.rows.load.Goals as goal
 

@@ -1,9 +1,8 @@
 -- `finder::rows::put` meets its contract. The loop keeps: the first j words are written (`SearchLaws.Putting`). Assumes nothing.
 use borrow.Author.Rules.{rules}
-use Prim.Native.Nat.{◌≤◌, ◌-◌}
 use mathlib.Core.Path.{◌≡◌}
 use native.Mathlib.Omega.{arith}
-use Rattle.finder.proofs.SearchLaws.{Putting, putting_start, putting_next, putting_end}
+use Rattle.finder.proofs.SearchLaws.{putting_start, putting_next, putting_end}
 use Rattle.finder.proofs.rows.put.Goals as goal
 
 pub loop-j-init : goal.loop-j-init

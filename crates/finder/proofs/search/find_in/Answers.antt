@@ -1,6 +1,5 @@
 -- `finder::search::find_in` meets its contract: no flag is left, so the notes are the largest (`SearchLaws.settled_largest`). Assumes nothing.
 use mathlib.Core.Path.{◌∙◌}
-use borrow.Author.Rules.{rules}
 use Rattle.finder.proofs.SearchLaws.{room_same, settled_largest}
 use Rattle.finder.proofs.search.find_in.Goals as goal
 

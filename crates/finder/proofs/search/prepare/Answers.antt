@@ -1,11 +1,10 @@
 -- `finder::search::prepare` meets its contract. The loop keeps: the first l lines have all that belongs, and a flag (`SearchLaws.Prepared`). Assumes nothing.
-use Rattle.facts.specs.FactSets.{facts_of}
 use borrow.Author.Rules.{rules}
-use Prim.Native.Nat.{◌≤◌, ◌-◌, ◌<◌}
+use Prim.Native.Nat.{◌<◌}
 use mathlib.Core.Path.{◌≡◌, ◌∙◌}
 use native.Mathlib.Omega.{arith}
 use lib.ListN.{length}
-use Rattle.finder.proofs.SearchLaws.{few_nodes, some_line, room_line, Prepared, prepared_start, prepared_next, prepared_end}
+use Rattle.finder.proofs.SearchLaws.{few_nodes, some_line, room_line, prepared_start, prepared_next, prepared_end}
 use Rattle.finder.proofs.search.prepare.Goals as goal
 
 pub belonging-most-requires : goal.belonging-most-requires

@@ -1,11 +1,9 @@
 -- `finder::search::prepare` meets its contract. The loop keeps: the first l lines have all that belongs, and a flag (`SearchLaws.Prepared`). Assumes nothing.
 use Rattle.facts.specs.FactSets.{facts_of}
-use borrow.Author.Rules.{rules}
-use Prim.Native.Nat.{◌≤◌, ◌-◌, ◌<◌}
-use mathlib.Core.Path.{◌≡◌, ◌∙◌}
-use native.Mathlib.Omega.{arith}
+use Prim.Native.Nat.{◌≤◌, ◌-◌}
+use mathlib.Core.Path.{◌≡◌}
 use lib.ListN.{length}
-use Rattle.finder.proofs.SearchLaws.{few_nodes, some_line, room_line, Prepared, prepared_start, prepared_next, prepared_end}
+use Rattle.finder.proofs.SearchLaws.{Prepared}
 use Rattle.finder.proofs.search.prepare.Given as goal
 
 abbrev pub invariant-loop-l : goal.invariant-loop-l

@@ -4,7 +4,6 @@ use Rattle.spec.specs.Script.{target_of, goes_on, instruction_of, instruction_re
 use mathlib.Core.Path.{◌≡◌, sym, ap, ◌∙◌, refl}
 use native.Mathlib.Omega.{arith}
 use lib.ListN.{get_or}
-use borrow.Author.Rules.{rules}
 use Rattle.finder.proofs.RowLaws.{spread_by}
 use Rattle.finder.proofs.SearchLaws.{room_line, rule_passed, facts_closed, names_at, target_in, next_in, leads, push_done}
 use Rattle.finder.proofs.search.push.Goals as goal

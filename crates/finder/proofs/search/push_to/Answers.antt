@@ -1,5 +1,4 @@
 -- `finder::search::push_to` meets its contract: a line cut, or none (`RowLaws.way_none`). Assumes nothing.
-use borrow.Author.Rules.{rules}
 use Rattle.finder.proofs.RowLaws.{way_none, way_some}
 use Rattle.finder.proofs.search.push_to.Goals as goal
 

@@ -1,5 +1,5 @@
 -- `finder::search::settle` meets its contract. The loop keeps `SearchLaws.Settling`; its measure is the sum of the words, and one more while it goes on. Assumes nothing.
-use Rattle.finder.proofs.SearchLaws.{room_same, Settling, settling_start, settling_next, left, left_less}
+use Rattle.finder.proofs.SearchLaws.{room_same, settling_start, settling_next, left_less}
 use Rattle.finder.proofs.search.settle.Goals as goal
 
 pub loop-again-init : goal.loop-again-init

@@ -1,9 +1,5 @@
 -- `finder::search::sweep` meets its contract. The loop keeps: the lines with a flag before l were pushed (`Rows.Swept`). Assumes nothing.
-use borrow.Author.Rules.{rules}
-use Prim.Native.Nat.{◌-◌}
 use native.Mathlib.Omega.{arith}
-use lib.ListN.{length}
-use Rattle.finder.specs.Rows.{Swept}
 use Rattle.finder.proofs.SearchLaws.{few_lines, room_same, swept_start, swept_next, swept_end}
 use Rattle.finder.proofs.search.sweep.Goals as goal
 

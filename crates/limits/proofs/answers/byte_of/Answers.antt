@@ -2,7 +2,6 @@
 use mathlib.Core.Bool.{◌&&◌}
 use native.Mathlib.Omega.{arith}
 use Rattle.limits.proofs.AnswerLaws.{bit, byte_is}
-use borrow.Author.Rules.{rules}
 use Rattle.limits.proofs.answers.byte_of.Goals as goal
 
 pub overflow_add-result : goal.overflow_add-result

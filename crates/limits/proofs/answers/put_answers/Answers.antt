@@ -8,7 +8,7 @@ use Rattle.spec.proofs.RuleLaws.{rule_out}
 use Rattle.rule.specs.Nodes.{form_in}
 use Rattle.intervals.proofs.LimitsLaws.{asked_out}
 use Rattle.limits.proofs.MonitorLaws.{few_held}
-use Rattle.limits.proofs.AnswerLaws.{Worked, worked_start, worked_next, worked_end, in_output_lem, keeps_length}
+use Rattle.limits.proofs.AnswerLaws.{worked_start, worked_next, worked_end, in_output_lem, keeps_length}
 use Rattle.limits.specs.Monitor.{cans_of}
 use Rattle.limits.proofs.answers.put_answers.Goals as goal
 

@@ -2,7 +2,6 @@
 use mathlib.Core.Path.{refl}
 use Rattle.intervals.specs.Limits.{test_can}
 use Rattle.limits.proofs.MonitorLaws.{both_sides}
-use borrow.Author.Rules.{rules}
 use Rattle.limits.proofs.monitor.below_can.Goals as goal
 
 pub returns : goal.returns

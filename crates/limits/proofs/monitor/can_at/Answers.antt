@@ -1,6 +1,5 @@
 -- `limits::monitor::can_at` meets its contract (`MonitorLaws`). Assumes nothing.
 use Rattle.limits.proofs.MonitorLaws.{both_sides}
-use borrow.Author.Rules.{rules}
 use Rattle.limits.proofs.monitor.can_at.Goals as goal
 
 pub returns : goal.returns

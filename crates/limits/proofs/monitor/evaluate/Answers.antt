@@ -1,5 +1,4 @@
 -- `limits::monitor::evaluate` meets its contract (`MonitorLaws`); the nodes below k are as the definition has them. The measure is what is left to go through. Assumes nothing.
-use Prim.Native.Nat.{◌-◌, ◌≤◌}
 use mathlib.Core.Path.{◌≡◌, sym, ap, ap₂, ◌∙◌}
 use native.Mathlib.Omega.{arith}
 use native.Mathlib.Numerals.{add-one}
@@ -7,10 +6,10 @@ use lib.ListN.{length}
 use borrow.Author.Rules.{rules}
 use Rattle.spec.specs.Rule.{Node, node_allowed}
 use Rattle.spec.proofs.RuleLaws.{rule_out, length_table}
-use Rattle.rule.specs.Nodes.{form_in, table_in, RulePasses}
+use Rattle.rule.specs.Nodes.{form_in, table_in}
 use Rattle.rule.proofs.NodeLaws.{node_at_lem}
 use Rattle.limits.proofs.MonitorLaws.{none_are, few_held}
-use Rattle.limits.specs.Monitor.{cans_of, Now, now_of, with_node, now_below, now_at}
+use Rattle.limits.specs.Monitor.{cans_of, Now, with_node, now_below, now_at}
 use Rattle.limits.proofs.monitor.evaluate.Goals as goal
 
 pub loop-k-init : goal.loop-k-init

@@ -2,7 +2,6 @@
 use Rattle.limits.specs.Monitor.{cans_of, node_next, joining, with_node}
 use Rattle.rule.specs.Nodes.{node_read}
 use mathlib.Core.Path.{ap, ◌∙◌}
-use borrow.Author.Rules.{rules}
 use Rattle.limits.proofs.monitor.evaluate_node.Goals as goal
 
 pub returns : goal.returns

@@ -1,6 +1,5 @@
 -- `limits::monitor::first_cans` meets its contract (`MonitorLaws`). Assumes nothing.
 use Rattle.limits.proofs.MonitorLaws.{first_are}
-use borrow.Author.Rules.{rules}
 use Rattle.limits.proofs.monitor.first_cans.Goals as goal
 
 pub returns : goal.returns

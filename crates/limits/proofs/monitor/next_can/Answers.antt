@@ -2,7 +2,6 @@
 use Rattle.limits.specs.Monitor.{can_of, cans_of, node_next}
 use Rattle.rule.specs.Nodes.{node_read, NodeSmall}
 use mathlib.Core.Path.{sym, ap, subst, ◌∙◌}
-use borrow.Author.Rules.{rules}
 use Rattle.limits.proofs.monitor.next_can.Goals as goal
 
 pub can_at-requires : goal.can_at-requires

@@ -8,7 +8,6 @@ use Rattle.spec.specs.Rule.{node_allowed}
 use Rattle.rule.specs.Nodes.{node_read, NodeSmall}
 use Rattle.limits.proofs.MonitorLaws.{both_sides}
 use Rattle.limits.specs.Monitor.{implies_can, since_can, cans_of, node_can}
-use borrow.Author.Rules.{rules}
 use Rattle.limits.proofs.monitor.node_can.Goals as goal
 
 pub equal_can-requires : goal.equal_can-requires

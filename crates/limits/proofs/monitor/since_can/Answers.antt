@@ -2,7 +2,6 @@
 use mathlib.Core.Bool.{not}
 use mathlib.Core.Path.{ap}
 use Rattle.limits.proofs.MonitorLaws.{both_sides}
-use borrow.Author.Rules.{rules}
 use Rattle.limits.proofs.monitor.since_can.Goals as goal
 
 pub returns : goal.returns

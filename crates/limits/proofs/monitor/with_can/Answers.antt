@@ -1,6 +1,5 @@
 -- `limits::monitor::with_can` meets its contract (`MonitorLaws`). Assumes nothing.
 use Rattle.limits.proofs.MonitorLaws.{joins}
-use borrow.Author.Rules.{rules}
 use Rattle.limits.proofs.monitor.with_can.Goals as goal
 
 pub returns : goal.returns

@@ -1,5 +1,4 @@
 -- `limits::question::all_ordered` meets its contract (`QuestionLaws`); so far no low was above its high. The measure is what is left to go through. Assumes nothing.
-use Prim.Native.Nat.{◌-◌, ◌≤◌}
 use mathlib.Core.Path.{◌≡◌, refl, ap, ◌∙◌}
 use mathlib.Core.Bool.{◌&&◌}
 use native.Mathlib.Omega.{arith}

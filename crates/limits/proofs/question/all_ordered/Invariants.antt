@@ -1,11 +1,7 @@
 -- `limits::question::all_ordered` meets its contract (`QuestionLaws`); so far no low was above its high. The measure is what is left to go through. Assumes nothing.
 use Prim.Native.Nat.{◌-◌, ◌≤◌}
-use mathlib.Core.Path.{◌≡◌, refl, ap, ◌∙◌}
-use mathlib.Core.Bool.{◌&&◌}
-use native.Mathlib.Omega.{arith}
-use native.Mathlib.Numerals.{add-one}
+use mathlib.Core.Path.{◌≡◌}
 use lib.ListN.{length}
-use borrow.Author.Rules.{rules}
 use Rattle.spec.specs.Questions.{all_below}
 use Rattle.limits.proofs.QuestionLaws.{in_order}
 use Rattle.limits.proofs.question.all_ordered.Given as goal

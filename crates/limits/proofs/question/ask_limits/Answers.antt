@@ -4,7 +4,6 @@ use Rattle.spec.proofs.QuestionLaws.{first_no, go_on}
 use Rattle.rule.specs.Answers.{answer_of}
 use Rattle.rule.specs.Nodes.{form_in}
 use Rattle.limits.proofs.QuestionLaws.{lengths_same, limits_are}
-use borrow.Author.Rules.{rules}
 use Rattle.limits.proofs.question.ask_limits.Goals as goal
 
 pub returns-in_default : goal.returns-in_default

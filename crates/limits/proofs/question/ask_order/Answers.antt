@@ -1,10 +1,7 @@
 -- `limits::question::ask_order` meets its contract (`QuestionLaws`); no low before position i was above its high. The measure is what is left to go through. Assumes nothing.
-use Prim.Native.Nat.{◌-◌}
-use mathlib.Core.Path.{◌≡◌, sym, ◌∙◌}
-use lib.ListN.{length}
-use borrow.Author.Rules.{rules}
+use mathlib.Core.Path.{sym, ◌∙◌}
 use borrow.Author.Tests.{le-leb, lt-leb}
-use Rattle.spec.proofs.QuestionLaws.{Scanned, scanned_start, scanned_next, scan_no, scan_yes}
+use Rattle.spec.proofs.QuestionLaws.{scanned_start, scanned_next, scan_no, scan_yes}
 use Rattle.intervals.specs.Limits.{question23}
 use Rattle.limits.proofs.QuestionLaws.{in_order, order_yes}
 use Rattle.limits.proofs.question.ask_order.Goals as goal

@@ -3,7 +3,6 @@ use mathlib.Core.Path.{sym, ap, ◌∙◌}
 use Rattle.spec.proofs.QuestionLaws.{first_no, go_on}
 use Rattle.rule.specs.Answers.{answer_of}
 use Rattle.limits.specs.Questions.{check_values}
-use borrow.Author.Rules.{rules}
 use Rattle.limits.proofs.question.ask_values.Goals as goal
 
 pub returns-in_default : goal.returns-in_default

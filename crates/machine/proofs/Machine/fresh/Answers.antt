@@ -8,7 +8,6 @@ use Rattle.moves.specs.Moves.{widen_rule}
 use Rattle.moves.proofs.RunMoveLaws.{fresh_within}
 use Rattle.machine.proofs.StartLaws.{table_first, table_count}
 use native.Mathlib.Omega.{arith}
-use borrow.Author.Rules.{rules}
 use Rattle.machine.proofs.Machine.fresh.Goals as goal
 
 pub slice_bounds-widen_rule-end : goal.slice_bounds-widen_rule-end

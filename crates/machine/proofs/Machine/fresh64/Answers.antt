@@ -3,7 +3,6 @@ use mathlib.Core.Path.{refl, sym}
 use native.Mathlib.Omega.{arith}
 use lib.Seq.{length-take-le}
 use Rattle.machine.proofs.ReadyLaws.{fresh_state}
-use borrow.Author.Rules.{rules}
 use Rattle.machine.proofs.Machine.fresh64.Goals as goal
 
 pub slice_bounds-first_readiness-end : goal.slice_bounds-first_readiness-end

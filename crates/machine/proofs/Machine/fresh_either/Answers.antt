@@ -2,7 +2,6 @@
 use mathlib.Core.Path.{sym, ap, ◌∙◌}
 use Rattle.spec.specs.Ready.{fresh_state_of}
 use Rattle.rule.specs.Nodes.{form_by, stored_in}
-use borrow.Author.Rules.{rules}
 use Rattle.machine.proofs.Machine.fresh_either.Goals as goal
 
 pub returns-then-is_wide : goal.returns-then-is_wide

@@ -2,7 +2,6 @@
 use mathlib.Core.Path.{sym, ap, ◌∙◌}
 use Rattle.machine.specs.Runs.{next_of}
 use Rattle.machine.proofs.RunLaws.{goes_on, is_stop}
-use borrow.Author.Rules.{rules}
 use Rattle.machine.proofs.Machine.is_stopped.Goals as goal
 
 pub returns-in-Going : goal.returns-in-Going

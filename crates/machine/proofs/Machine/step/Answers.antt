@@ -8,7 +8,6 @@ use Rattle.spec.specs.Ready.{state_step_of}
 use Rattle.machine.specs.Machines.{state_of}
 use Rattle.machine.proofs.StepLaws.{few_cut}
 use Rattle.machine.proofs.ReadyLaws.{state_cut}
-use borrow.Author.Rules.{rules}
 use Rattle.machine.proofs.Machine.step.Goals as goal
 
 pub slice_bounds-step_in-end : goal.slice_bounds-step_in-end

@@ -3,7 +3,6 @@ use mathlib.Core.Path.{sym, ap, ◌∙◌}
 use Rattle.spec.specs.Ready.{state_step_of}
 use Rattle.rule.specs.Nodes.{form_by, stored_in}
 use Rattle.machine.specs.Machines.{state_of}
-use borrow.Author.Rules.{rules}
 use Rattle.machine.proofs.Machine.step_either.Goals as goal
 
 pub returns-then-is_wide : goal.returns-then-is_wide

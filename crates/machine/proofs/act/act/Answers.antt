@@ -9,7 +9,6 @@ use Rattle.script.proofs.LineLaws.{beyond}
 use Rattle.machine.specs.Machines.{machine_at}
 use Rattle.script.specs.Lines.{fields_in}
 use Rattle.machine.proofs.ActLaws.{held_copy, held_equal, held_set, held_keep, act_halt, act_write, act_dry, act_input, act_target, act_next, act_go, act_full, act_present, act_set, act_keep}
-use borrow.Author.Rules.{rules}
 use Rattle.machine.proofs.act.act.Goals as goal
 
 pub returns-in-0 : goal.returns-in-0

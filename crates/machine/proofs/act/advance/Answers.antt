@@ -3,7 +3,6 @@ use mathlib.Core.Path.{ap, ◌∙◌}
 use Rattle.spec.specs.Script.{instruction_of, instruction_read}
 use Rattle.spec.specs.Machine.{acting}
 use Rattle.machine.specs.Machines.{machine_at, names_held}
-use borrow.Author.Rules.{rules}
 use Rattle.machine.proofs.act.advance.Goals as goal
 
 pub act-requires : goal.act-requires

@@ -1,7 +1,6 @@
 -- `machine::act::raise` meets its contract: a sum of at most 16,383 is the sum, a larger one 16,383. Assumes nothing.
 use mathlib.Core.Path.{sym}
 use Rattle.spec.proofs.RegisterLaws.{raised_sum, raised_end}
-use borrow.Author.Rules.{rules}
 use Rattle.machine.proofs.act.raise.Goals as goal
 
 pub returns-then-sum-le16383 : goal.returns-then-sum-le16383

@@ -1,10 +1,10 @@
 -- `machine::act::store` meets its contract. The loop keeps: the first i registers stand in the history. Assumes nothing.
-use Prim.Native.Nat.{◌≤◌, ◌-◌, ◌*◌}
+use Prim.Native.Nat.{◌*◌}
 use mathlib.Core.Path.{◌≡◌, refl, ap, ◌∙◌}
 use native.Mathlib.Omega.{arith}
 use native.Mathlib.Numerals.{add-one}
 use lib.ListN.{length}
-use lib.Seq.{paste, paste-zero, paste-suc, length-paste, take_all}
+use lib.Seq.{paste-zero, paste-suc, length-paste, take_all}
 use borrow.Author.Rules.{rules}
 use Rattle.machine.proofs.act.store.Goals as goal
 

@@ -4,7 +4,6 @@ use native.Mathlib.Omega.{arith}
 use Rattle.spec.proofs.RuleLaws.{length_table}
 use Rattle.rule.specs.Nodes.{form_in, table_in}
 use Rattle.machine.proofs.ReadyLaws.{first_ready}
-use borrow.Author.Rules.{rules}
 use Rattle.machine.proofs.ready.first_readiness.Goals as goal
 
 pub returns : goal.returns

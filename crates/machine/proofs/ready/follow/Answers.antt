@@ -3,7 +3,6 @@ use mathlib.Core.Path.{sym, ap, ◌∙◌}
 use Rattle.rule.specs.Nodes.{table_by}
 use Rattle.machine.specs.Machines.{readiness_of}
 use Rattle.machine.specs.Renewals.{renewed}
-use borrow.Author.Rules.{rules}
 use Rattle.machine.proofs.ready.follow.Goals as goal
 
 pub returns-in-Unchanged : goal.returns-in-Unchanged

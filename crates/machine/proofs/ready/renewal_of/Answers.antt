@@ -1,12 +1,10 @@
 -- `machine::ready::renewal_of` meets its contract, by opcode (`ReadyLaws`). Assumes nothing.
 use mathlib.Core.Path.{sym, ap, ap₂, ◌∙◌}
 use mathlib.Core.Bool.{Bool, cond, ◌&&◌}
-use borrow.Author.Tests.{not-true, not-false}
 use Rattle.spec.specs.Ready.{ready_move}
 use Rattle.script.specs.Lines.{fields_in, instruction_in}
 use Rattle.machine.specs.Machines.{readiness_of}
 use Rattle.machine.proofs.ReadyLaws.{renew_present, renew_write, renew_not}
-use borrow.Author.Rules.{rules}
 use Rattle.machine.proofs.ready.renewal_of.Goals as goal
 
 pub returns-then-not-done : goal.returns-then-not-done

@@ -6,7 +6,6 @@ use Rattle.spec.specs.Rule.{Table}
 use Rattle.sets.specs.Sets.{set_of}
 use Rattle.machine.proofs.StartLaws.{table_first, table_count}
 use Rattle.machine.proofs.ReadyLaws.{few_wide, few_narrow, table_wide, table_narrow}
-use borrow.Author.Rules.{rules}
 use Rattle.machine.proofs.ready.work_out_in.Goals as goal
 
 pub work_out-requires : goal.work_out-requires

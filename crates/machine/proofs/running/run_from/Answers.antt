@@ -4,24 +4,14 @@ use Rattle.machine.specs.Machines.{names_held}
 use Rattle.machine.specs.Runs.{stop_before}
 use Rattle.spec.specs.Machine.{stops, acting}
 use lib.Dec.{eqb}
-use Prim.Native.Nat.{ℕ, ◌-◌, ◌/◌, ◌≤◌, ◌<◌}
+use Prim.Native.Nat.{◌-◌}
 use mathlib.Core.Path.{◌≡◌, refl, ap, ◌∙◌}
-use mathlib.Core.List.{List}
 use native.Mathlib.Omega.{arith}
-use lib.ListN.{length}
-use Rattle.spec.specs.Script.{Code}
-use Rattle.spec.specs.Check.{code_of}
-use Rattle.spec.specs.Machine.{run}
 use Rattle.machine.specs.Machines.{machine_at}
-use Rattle.machine.specs.Runs.{next_of, run_from}
-use Rattle.script.specs.Lines.{lines_in}
+use Rattle.machine.specs.Runs.{next_of}
 use Rattle.script.proofs.LineLaws.{word_instruction, line_instruction}
 use Rattle.machine.proofs.RunLaws.{turn_less, turn_goes, turn_ends}
-use mathlib.Core.Bool.{Bool}
-use Rattle.rule.specs.Nodes.{stored_in}
 use Rattle.rule.proofs.EitherLaws.{size_most}
-use borrow.Author.Rules.{rules}
-use Rattle.machine.proofs.running.run_from.Invariants.{code}
 use Rattle.machine.proofs.running.run_from.Goals as goal
 
 pub loop-registers-init : goal.loop-registers-init

@@ -3,7 +3,6 @@ use mathlib.Core.Path.{sym, ap, subst, ◌∙◌}
 use Rattle.stations.specs.declared.StationsAnswer.{StationsAnswer}
 use Rattle.stations.specs.Views.{machines_of, states_of}
 use Rattle.numbers.specs.Stations.{states_left, FourWords}
-use borrow.Author.Rules.{rules}
 use Rattle.numbers.proofs.fours.note_run.Goals as goal
 
 pub returns-in-Refused : goal.returns-in-Refused

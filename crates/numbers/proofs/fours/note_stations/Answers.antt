@@ -8,7 +8,6 @@ use Rattle.stations.specs.Views.{report_in}
 use Rattle.numbers.specs.Numbers.{number_of}
 use Rattle.numbers.specs.Stations.{stations_words}
 use Rattle.numbers.proofs.NoteLaws.{at_start}
-use borrow.Author.Rules.{rules}
 use Rattle.numbers.proofs.fours.note_stations.Goals as goal
 
 pub bounds-numbers-1 : goal.bounds-numbers-1

@@ -2,7 +2,6 @@
 use Rattle.machine.specs.Machines.{state_of}
 use Rattle.numbers.specs.States.{state_words}
 use Rattle.numbers.proofs.FourLaws.{part_put}
-use borrow.Author.Rules.{rules}
 use Rattle.numbers.proofs.fours.put_machine_at.Goals as goal
 
 pub returns : goal.returns

@@ -2,7 +2,6 @@
 use Rattle.stations.specs.Views.{machines_of, states_of}
 use Rattle.numbers.specs.States.{state_words}
 use Rattle.numbers.proofs.FourLaws.{four_put}
-use borrow.Author.Rules.{rules}
 use Rattle.numbers.proofs.fours.put_states.Goals as goal
 
 pub returns : goal.returns

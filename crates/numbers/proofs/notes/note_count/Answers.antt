@@ -6,7 +6,6 @@ use Rattle.rule.specs.declared.answer.Counted.{Counted}
 use Rattle.rule.specs.Answers.{counted_of}
 use Rattle.numbers.specs.Numbers.{number_of, count_words}
 use Rattle.numbers.proofs.NoteLaws.{at_start}
-use borrow.Author.Rules.{rules}
 use Rattle.numbers.proofs.notes.note_count.Goals as goal
 
 pub returns-in-Refused : goal.returns-in-Refused

@@ -3,7 +3,6 @@ use mathlib.Core.List.{[], ◌∷◌}
 use native.Mathlib.Omega.{arith}
 use lib.ListN.{length-set}
 use Rattle.numbers.proofs.NoteLaws.{at_start}
-use borrow.Author.Rules.{rules}
 use Rattle.numbers.proofs.notes.note_four.Goals as goal
 
 pub bounds-numbers-1 : goal.bounds-numbers-1

@@ -6,7 +6,6 @@ use Rattle.rule.specs.declared.answer.Answer.{Answer}
 use Rattle.rule.specs.Answers.{answer_of}
 use Rattle.numbers.specs.Numbers.{number_of, checked_words}
 use Rattle.numbers.proofs.NoteLaws.{at_start}
-use borrow.Author.Rules.{rules}
 use Rattle.numbers.proofs.notes.note_place.Goals as goal
 
 pub returns-in-Passed : goal.returns-in-Passed

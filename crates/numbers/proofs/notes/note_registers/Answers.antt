@@ -1,10 +1,9 @@
 -- `numbers::notes::note_registers` meets its contract. The loop keeps: the first i registers stand in the lent words. Assumes nothing.
-use Prim.Native.Nat.{◌≤◌, ◌-◌}
-use mathlib.Core.Path.{◌≡◌, refl, ap, ◌∙◌}
+use mathlib.Core.Path.{◌≡◌, ap, ◌∙◌}
 use native.Mathlib.Omega.{arith}
 use native.Mathlib.Numerals.{add-one}
 use lib.ListN.{length}
-use lib.Seq.{paste, paste-zero, paste-suc, length-paste, take_all}
+use lib.Seq.{paste-zero, paste-suc, length-paste, take_all}
 use borrow.Author.Rules.{rules}
 use Rattle.numbers.proofs.notes.note_registers.Goals as goal
 

@@ -1,11 +1,8 @@
 -- `numbers::notes::note_registers` meets its contract. The loop keeps: the first i registers stand in the lent words. Assumes nothing.
 use Prim.Native.Nat.{◌≤◌, ◌-◌}
-use mathlib.Core.Path.{◌≡◌, refl, ap, ◌∙◌}
-use native.Mathlib.Omega.{arith}
-use native.Mathlib.Numerals.{add-one}
+use mathlib.Core.Path.{◌≡◌}
 use lib.ListN.{length}
-use lib.Seq.{paste, paste-zero, paste-suc, length-paste, take_all}
-use borrow.Author.Rules.{rules}
+use lib.Seq.{paste}
 use Rattle.numbers.proofs.notes.note_registers.Given as goal
 
 abbrev pub invariant-loop-i : goal.invariant-loop-i

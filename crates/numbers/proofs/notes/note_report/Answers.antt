@@ -5,7 +5,6 @@ use mathlib.Core.List.{[], ◌∷◌, ◌++◌}
 use native.Mathlib.Omega.{arith}
 use lib.ListN.{drop, length-set}
 use Rattle.numbers.proofs.NoteLaws.{then_registers}
-use borrow.Author.Rules.{rules}
 use Rattle.numbers.proofs.notes.note_report.Goals as goal
 
 pub bounds-numbers-1 : goal.bounds-numbers-1

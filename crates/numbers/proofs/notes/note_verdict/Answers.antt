@@ -5,7 +5,6 @@ use lib.ListN.{drop}
 use Rattle.rule.specs.declared.answer.Verdict.{Verdict}
 use Rattle.rule.specs.Answers.{verdict_of}
 use Rattle.numbers.specs.Numbers.{number_of, verdict_words}
-use borrow.Author.Rules.{rules}
 use Rattle.numbers.proofs.notes.note_verdict.Goals as goal
 
 pub returns-in-Refused : goal.returns-in-Refused

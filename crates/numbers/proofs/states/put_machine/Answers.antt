@@ -8,7 +8,6 @@ use Rattle.numbers.proofs.NoteLaws.{then_registers}
 use Rattle.numbers.proofs.StateLaws.{words_of, put_words}
 use Rattle.machine.specs.Machines.{readiness_of}
 use Rattle.numbers.specs.States.{readiness_words}
-use borrow.Author.Rules.{rules}
 use Rattle.numbers.proofs.states.put_machine.Goals as goal
 
 pub bounds-state-1 : goal.bounds-state-1

@@ -8,7 +8,6 @@ use lib.ListN.{take, drop, length-set}
 use lib.Seq.{sets, sets-eq}
 use mir.Val.{bool_byte}
 use Rattle.numbers.proofs.StateLaws.{ready_words}
-use borrow.Author.Rules.{rules}
 use Rattle.numbers.proofs.states.put_readiness.Goals as goal
 
 -- a truth value as a number

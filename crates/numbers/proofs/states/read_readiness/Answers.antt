@@ -1,7 +1,6 @@
 -- `numbers::states::read_readiness` meets its contract. Assumes nothing.
 use mathlib.Core.Path.{refl}
 use Rattle.numbers.specs.States.{readiness_in}
-use borrow.Author.Rules.{rules}
 use Rattle.numbers.proofs.states.read_readiness.Goals as goal
 
 pub returns : goal.returns

@@ -1,10 +1,7 @@
 -- `numbers::states::registers_fit` meets its contract. The loop keeps: whether the first i registers fit. Assumes nothing.
-use Prim.Native.Nat.{◌+◌, ◌≤◌, ◌-◌}
-use mathlib.Core.Path.{◌≡◌, refl, ap, ◌∙◌}
+use mathlib.Core.Path.{◌≡◌, refl, ◌∙◌}
 use native.Mathlib.Omega.{arith}
 use native.Mathlib.Numerals.{add-one}
-use lib.ListN.{length, get_or}
-use lib.Dec.{leb}
 use Rattle.spec.specs.Questions.{all_below}
 use Rattle.numbers.specs.States.{registers_fit}
 use borrow.Author.Rules.{rules}

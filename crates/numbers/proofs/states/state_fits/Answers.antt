@@ -4,7 +4,6 @@ use mathlib.Core.Bool.{Bool, ◌&&◌}
 use lib.Dec.{leb}
 use lib.ListN.{get_or}
 use Rattle.numbers.specs.States.{state_fits}
-use borrow.Author.Rules.{rules}
 use Rattle.numbers.proofs.states.state_fits.Goals as goal
 
 pub returns : goal.returns

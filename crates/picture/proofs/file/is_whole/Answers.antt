@@ -1,6 +1,5 @@
 -- `picture::file::is_whole` meets its contract (`FileLaws`). Assumes nothing.
 use Rattle.picture.proofs.FileLaws.{whole_no, whole_is}
-use borrow.Author.Rules.{rules}
 use Rattle.picture.proofs.file.is_whole.Goals as goal
 
 pub returns-then-count-gt1000 : goal.returns-then-count-gt1000

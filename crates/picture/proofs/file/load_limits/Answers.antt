@@ -1,8 +1,7 @@
 -- `picture::file::load_limits` meets its contract (`FileLaws`); the first j numbers are loaded. The measure is what is left to go through. Assumes nothing.
-use Prim.Native.Nat.{ℕ, ◌-◌, ◌*◌, ◌≤◌}
+use Prim.Native.Nat.{ℕ, ◌*◌}
 use mathlib.Core.Path.{◌≡◌, subst}
 use native.Mathlib.Omega.{arith}
-use lib.ListN.{length}
 use borrow.Author.Rules.{rules}
 use Rattle.print.specs.Written.{Added}
 use Rattle.picture.specs.File.{limits_from}

@@ -1,12 +1,9 @@
 -- `picture::file::load_limits` meets its contract (`FileLaws`); the first j numbers are loaded. The measure is what is left to go through. Assumes nothing.
-use Prim.Native.Nat.{ℕ, ◌-◌, ◌*◌, ◌≤◌}
-use mathlib.Core.Path.{◌≡◌, subst}
-use native.Mathlib.Omega.{arith}
+use Prim.Native.Nat.{◌-◌, ◌*◌, ◌≤◌}
+use mathlib.Core.Path.{◌≡◌}
 use lib.ListN.{length}
-use borrow.Author.Rules.{rules}
 use Rattle.print.specs.Written.{Added}
 use Rattle.picture.specs.File.{limits_from}
-use Rattle.picture.proofs.FileLaws.{limits_start, limits_next}
 use Rattle.picture.proofs.file.load_limits.Given as goal
 
 abbrev pub invariant-loop-j : goal.invariant-loop-j

@@ -2,7 +2,6 @@
 use native.Mathlib.Omega.{arith}
 use Rattle.print.proofs.AddedLaws.{filled_as, filled_is}
 use Rattle.picture.proofs.LineLaws.{word_false, word_true, word_open}
-use borrow.Author.Rules.{rules}
 use Rattle.picture.proofs.lines.add_answer.Goals as goal
 
 pub returns-then-answer-eq0 : goal.returns-then-answer-eq0

@@ -3,7 +3,6 @@ use native.Mathlib.Omega.{arith}
 use Rattle.picture.specs.Lines.{index_text}
 use Rattle.print.proofs.DecimalLaws.{number_filled, number_room}
 use Rattle.print.proofs.AddedLaws.{filled_as, filled_then, filled_room}
-use borrow.Author.Rules.{rules}
 use Rattle.picture.proofs.lines.add_index.Goals as goal
 
 pub add_number-answer_at-requires : goal.add_number-answer_at-requires

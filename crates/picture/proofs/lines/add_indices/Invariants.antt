@@ -1,11 +1,8 @@
 -- `picture::lines::add_indices` meets its contract (`LineLaws`); the lines below i are written. The measure is what is left to go through. Assumes nothing.
 use Prim.Native.Nat.{◌-◌, ◌*◌, ◌≤◌}
-use mathlib.Core.Path.{◌≡◌, subst, ◌∙◌}
-use native.Mathlib.Omega.{arith}
+use mathlib.Core.Path.{◌≡◌}
 use lib.ListN.{length}
-use borrow.Author.Rules.{rules}
 use Rattle.print.specs.Written.{Filled, each_of}
-use Rattle.print.proofs.AddedLaws.{filled_room, each_start, each_next}
 use Rattle.picture.proofs.LineLaws.{line_at}
 use Rattle.picture.proofs.lines.add_indices.Given as goal
 

@@ -3,7 +3,6 @@ use native.Mathlib.Omega.{arith}
 use Rattle.sets.specs.Sets.{set_of}
 use Rattle.print.proofs.AddedLaws.{added_none, filled_as, filled_is}
 use Rattle.picture.proofs.LineLaws.{reason_none, reason_some}
-use borrow.Author.Rules.{rules}
 use Rattle.picture.proofs.lines.add_reason.Goals as goal
 
 pub returns-then-answer-eq1 : goal.returns-then-answer-eq1

@@ -5,7 +5,6 @@ use Rattle.sets.specs.Sets.{set_of}
 use Rattle.print.proofs.DecimalLaws.{decimal_short}
 use Rattle.print.proofs.AddedLaws.{added_none, filled_as, filled_is, filled_then, filled_room}
 use Rattle.picture.proofs.LineLaws.{register_there, register_not}
-use borrow.Author.Rules.{rules}
 use Rattle.picture.proofs.lines.add_register.Goals as goal
 
 pub add_decimal-requires : goal.add_decimal-requires

@@ -1,8 +1,7 @@
 -- `picture::lines::add_registers` meets its contract; the registers below r are written. The measure is what is left to go through. Assumes nothing.
-use Prim.Native.Nat.{◌+◌, ◌-◌, ◌*◌, ◌≤◌}
+use Prim.Native.Nat.{◌*◌}
 use mathlib.Core.Path.{◌≡◌, subst, ◌∙◌}
 use native.Mathlib.Omega.{arith}
-use lib.ListN.{length}
 use borrow.Author.Rules.{rules}
 use Rattle.sets.specs.Sets.{set_of}
 use Rattle.print.specs.Written.{Filled, each_of}

@@ -1,13 +1,10 @@
 -- `picture::lines::add_registers` meets its contract; the registers below r are written. The measure is what is left to go through. Assumes nothing.
 use Prim.Native.Nat.{◌+◌, ◌-◌, ◌*◌, ◌≤◌}
-use mathlib.Core.Path.{◌≡◌, subst, ◌∙◌}
-use native.Mathlib.Omega.{arith}
+use mathlib.Core.Path.{◌≡◌}
 use lib.ListN.{length}
-use borrow.Author.Rules.{rules}
 use Rattle.sets.specs.Sets.{set_of}
 use Rattle.print.specs.Written.{Filled, each_of}
-use Rattle.print.proofs.AddedLaws.{filled_room, each_start, each_next}
-use Rattle.picture.specs.Lines.{register_text, registers_text}
+use Rattle.picture.specs.Lines.{register_text}
 use Rattle.picture.proofs.lines.add_registers.Given as goal
 
 abbrev pub invariant-loop-r : goal.invariant-loop-r

@@ -4,7 +4,6 @@ use native.Mathlib.Omega.{arith}
 use Rattle.picture.specs.Lines.{lines_text}
 use Rattle.print.proofs.DecimalLaws.{number_filled, number_room}
 use Rattle.print.proofs.AddedLaws.{filled_as, filled_then, filled_room}
-use borrow.Author.Rules.{rules}
 use Rattle.picture.proofs.lines.put_lines.Goals as goal
 
 pub add_number-lines_at-requires : goal.add_number-lines_at-requires

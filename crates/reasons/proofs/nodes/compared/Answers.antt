@@ -3,7 +3,6 @@ use mathlib.Core.Path.{ap, ◌∙◌}
 use mathlib.Core.Bool.{true}
 use Rattle.sets.specs.Sets.{adding}
 use Rattle.reasons.proofs.RegisterLaws.{same_register_lem, two_registers_lem}
-use borrow.Author.Rules.{rules}
 use Rattle.reasons.proofs.nodes.compared.Goals as goal
 
 pub returns-then-register-other : goal.returns-then-register-other

@@ -11,7 +11,6 @@ use Rattle.intervals.specs.Reasons
 use Rattle.limits.specs.Monitor.{cans_of}
 use Rattle.reasons.specs.Registers.{node_registers, sets_in}
 use Rattle.reasons.proofs.RegisterLaws.{one_register}
-use borrow.Author.Rules.{rules}
 use Rattle.reasons.proofs.nodes.node_registers.Goals as goal
 
 pub reason_at-l-requires : goal.reason_at-l-requires

@@ -2,7 +2,6 @@
 use mathlib.Core.Bool.{true, false}
 use Rattle.reasons.specs.Registers.{sets_in}
 use Rattle.intervals.specs.Limits.{open_if}
-use borrow.Author.Rules.{rules}
 use Rattle.reasons.proofs.nodes.reason_at.Goals as goal
 
 pub returns : goal.returns

@@ -1,6 +1,6 @@
 -- `reasons::nodes::registers_at` meets its contract (`RegisterLaws`); the sets of the nodes below k are as the definition has them. The measure is what is left to go through. Assumes nothing.
-use Prim.Native.Nat.{◌-◌, ◌≤◌, ◌<◌}
-use mathlib.Core.Path.{◌≡◌, refl, sym, ap, ◌∙◌}
+use Prim.Native.Nat.{◌<◌}
+use mathlib.Core.Path.{refl, sym, ap, ◌∙◌}
 use native.Mathlib.Omega.{arith}
 use native.Mathlib.Numerals.{add-one}
 use lib.ListN.{length, length-set}
@@ -8,11 +8,11 @@ use borrow.Author.Rules.{rules}
 use Rattle.spec.proofs.RuleLaws.{rule_out}
 use Rattle.spec.specs.Rule.{Node, node_allowed}
 use Rattle.rule.proofs.NodeLaws.{node_at_lem}
-use Rattle.rule.specs.Nodes.{form_in, table_in, RulePasses}
+use Rattle.rule.specs.Nodes.{form_in, table_in}
 use Rattle.limits.proofs.MonitorLaws.{few_held}
 use Rattle.limits.specs.Monitor.{cans_of}
 use Rattle.reasons.specs.Registers.{node_registers, sets_in}
-use Rattle.reasons.proofs.RegisterLaws.{FilledTo, registers_next}
+use Rattle.reasons.proofs.RegisterLaws.{registers_next}
 use Rattle.reasons.proofs.nodes.registers_at.Goals as goal
 
 pub loop-k-init : goal.loop-k-init

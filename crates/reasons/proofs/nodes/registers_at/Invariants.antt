@@ -1,18 +1,11 @@
 -- `reasons::nodes::registers_at` meets its contract (`RegisterLaws`); the sets of the nodes below k are as the definition has them. The measure is what is left to go through. Assumes nothing.
-use Prim.Native.Nat.{◌-◌, ◌≤◌, ◌<◌}
-use mathlib.Core.Path.{◌≡◌, refl, sym, ap, ◌∙◌}
-use native.Mathlib.Omega.{arith}
-use native.Mathlib.Numerals.{add-one}
-use lib.ListN.{length, length-set}
-use borrow.Author.Rules.{rules}
-use Rattle.spec.proofs.RuleLaws.{rule_out}
-use Rattle.spec.specs.Rule.{Node, node_allowed}
-use Rattle.rule.proofs.NodeLaws.{node_at_lem}
-use Rattle.rule.specs.Nodes.{form_in, table_in, RulePasses}
-use Rattle.limits.proofs.MonitorLaws.{few_held}
+use Prim.Native.Nat.{◌-◌, ◌≤◌}
+use mathlib.Core.Path.{◌≡◌}
+use lib.ListN.{length}
+use Rattle.rule.specs.Nodes.{table_in, RulePasses}
 use Rattle.limits.specs.Monitor.{cans_of}
-use Rattle.reasons.specs.Registers.{node_registers, sets_in}
-use Rattle.reasons.proofs.RegisterLaws.{FilledTo, registers_next}
+use Rattle.reasons.specs.Registers.{sets_in}
+use Rattle.reasons.proofs.RegisterLaws.{FilledTo}
 use Rattle.reasons.proofs.nodes.registers_at.Given as goal
 
 abbrev pub invariant-loop-k : goal.invariant-loop-k

@@ -1,7 +1,6 @@
 -- `reasons::reason::both` meets its contract. Assumes nothing.
 use mathlib.Core.Path.{ap, ap₂, ◌∙◌}
 use Rattle.intervals.specs.Reasons
-use borrow.Author.Rules.{rules}
 use Rattle.reasons.proofs.reason.both.Goals as goal
 
 pub returns : goal.returns

@@ -1,7 +1,6 @@
 -- `reasons::reason::either` meets its contract (`ReasonLaws`). Assumes nothing.
 use Rattle.reasons.specs.Registers.{reason_of}
 use Rattle.reasons.proofs.ReasonLaws.{true_is, not_true, first_true, second_true, rest_truth}
-use borrow.Author.Rules.{rules}
 use Rattle.reasons.proofs.reason.either.Goals as goal
 
 pub returns-then-a : goal.returns-then-a

@@ -2,7 +2,6 @@
 use mathlib.Core.Path.{fun_ext, ◌∙◌}
 use Rattle.sets.specs.Sets.{set_of, uniting}
 use Rattle.reasons.proofs.ReasonLaws.{first_open, second_open, alike}
-use borrow.Author.Rules.{rules}
 use Rattle.reasons.proofs.reason.joint.Goals as goal
 
 pub returns-then-a-b : goal.returns-then-a-b

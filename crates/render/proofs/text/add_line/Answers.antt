@@ -3,13 +3,11 @@ use mathlib.Core.Path.{subst}
 use mathlib.Core.List.{◌++◌}
 use native.Mathlib.Omega.{arith}
 use Rattle.spec.specs.Script.{Fields}
-use Rattle.script.specs.Lines.{fields_in}
 use Rattle.print.specs.Decimal.{number}
 use Rattle.print.specs.Written.{Added}
 use Rattle.print.proofs.AddedLaws.{filled_then, filled_room}
 use Rattle.print.proofs.DecimalLaws.{number_filled, number_room}
 use Rattle.render.specs.Text.{line_text}
-use borrow.Author.Rules.{rules}
 use Rattle.render.proofs.text.add_line.Goals as goal
 
 pub add_number-opcode_at-requires : goal.add_number-opcode_at-requires

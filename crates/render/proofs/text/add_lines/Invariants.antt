@@ -1,14 +1,10 @@
 -- `render::text::add_lines` meets its contract. The loop keeps: the first l lines are written, in at most 30 bytes each (`TextLaws`); the
 -- measure is how many are left. Assumes nothing.
-use mathlib.Core.Path.{◌≡◌, ap, ◌∙◌}
+use mathlib.Core.Path.{◌≡◌}
 use Prim.Native.Nat.{◌+◌, ◌-◌, ◌*◌, ◌≤◌}
-use native.Mathlib.Omega.{arith}
 use lib.ListN.{length}
-use borrow.Author.Rules.{rules}
 use Rattle.print.specs.Written.{Filled}
 use Rattle.render.specs.Text.{lines_text}
-use Rattle.print.proofs.AddedLaws.{added_as, filled_room}
-use Rattle.render.proofs.TextLaws.{lines_start, lines_next}
 use Rattle.render.proofs.text.add_lines.Given as goal
 
 abbrev pub invariant-loop-l : goal.invariant-loop-l

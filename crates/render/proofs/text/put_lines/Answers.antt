@@ -1,7 +1,6 @@
 -- `render::text::put_lines` meets its contract: the header's word, the count and the lines, one after another (`AddedLaws`). Assumes nothing.
 use Prim.Native.Nat.{◌*◌}
 use native.Mathlib.Omega.{arith}
-use borrow.Author.Rules.{rules}
 use Rattle.render.specs.Text.{answer_text}
 use Rattle.print.proofs.AddedLaws.{filled_as, filled_then, filled_room, filled_last}
 use Rattle.print.proofs.DecimalLaws.{number_filled, number_room}

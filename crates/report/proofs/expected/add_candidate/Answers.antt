@@ -2,7 +2,6 @@
 use native.Mathlib.Omega.{arith}
 use Rattle.report.proofs.ExpectedLaws.{above, candidate_count, item_at}
 use Rattle.report.specs.Compiled.{candidates}
-use borrow.Author.Rules.{rules}
 use Rattle.report.proofs.expected.add_candidate.Goals as goal
 
 pub returns-in-0 : goal.returns-in-0

@@ -1,11 +1,7 @@
 -- `report::expected::add_candidates` meets its contract: the candidates before k, one after another. Assumes nothing.
-use Prim.Native.Nat.{◌+◌, ◌-◌, ◌*◌, ◌≤◌}
-use lib.ListN.{length}
-use mathlib.Core.Path.{◌≡◌, ◌∙◌}
+use mathlib.Core.Path.{◌∙◌}
 use native.Mathlib.Omega.{arith}
-use Rattle.print.specs.Written.{Filled}
 use Rattle.print.proofs.AddedLaws.{filled_room}
-use Rattle.report.specs.Compiled.{items_text}
 use Rattle.report.proofs.ExpectedLaws.{candidate_count, items_start, items_next, items_end}
 use borrow.Author.Rules.{rules}
 use Rattle.report.proofs.expected.add_candidates.Goals as goal

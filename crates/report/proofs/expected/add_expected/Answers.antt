@@ -2,7 +2,6 @@
 use native.Mathlib.Omega.{arith}
 use Rattle.report.specs.Compiled.{expected_text}
 use Rattle.print.proofs.AddedLaws.{filled_as, filled_then}
-use borrow.Author.Rules.{rules}
 use Rattle.report.proofs.expected.add_expected.Goals as goal
 
 pub returns : goal.returns

@@ -3,7 +3,6 @@ use mathlib.Core.Path.{sym, ◌∙◌}
 use native.Mathlib.Omega.{arith}
 use Rattle.print.proofs.AddedLaws.{filled_as, filled_then}
 use Rattle.report.proofs.ExpectedLaws.{item_stands, item_not}
-use borrow.Author.Rules.{rules}
 use Rattle.report.proofs.expected.add_item.Goals as goal
 
 pub returns-then-is_begun : goal.returns-then-is_begun

@@ -1,6 +1,5 @@
 -- `report::expected::add_items` meets its contract: nothing was added where the end is the start. Assumes nothing.
 use Rattle.report.proofs.ExpectedLaws.{expected_none, expected_some}
-use borrow.Author.Rules.{rules}
 use Rattle.report.proofs.expected.add_items.Goals as goal
 
 pub returns-then-end-at : goal.returns-then-end-at

@@ -1,7 +1,6 @@
 -- `report::expected::is_begun` meets its contract. Assumes nothing.
 use mathlib.Core.Path.{sym, ◌∙◌}
 use Rattle.report.proofs.BegunLaws.{begun_all, begun_other, begun_is}
-use borrow.Author.Rules.{rules}
 use Rattle.report.proofs.expected.is_begun.Goals as goal
 
 pub returns-then-bytes-typed : goal.returns-then-bytes-typed

@@ -1,10 +1,7 @@
 -- `report::expected::letters_before` meets its contract: n letters stand just before the place. Assumes nothing.
-use mathlib.Core.Path.{◌≡◌, sym, ◌∙◌}
+use mathlib.Core.Path.{◌≡◌}
 use Prim.Native.Nat.{◌+◌, ◌-◌, ◌≤◌}
-use borrow.Author.Tests.{not-true, not-false}
-use borrow.Author.Rules.{rules}
 use Rattle.report.specs.Compiled.{letters_before}
-use Rattle.report.proofs.BegunLaws.{letters_start, letters_next, letters_stop, letters_out, letters_end}
 use Rattle.report.proofs.expected.letters_before.Given as goal
 
 abbrev pub invariant-loop-n : goal.invariant-loop-n

@@ -2,7 +2,6 @@
 use mathlib.Core.Path.{sym, ap, ◌∙◌}
 use Rattle.rule.specs.Answers.{answer_of}
 use Rattle.report.proofs.StandLaws.{before_length, front_room, next_room, tried_inside, tried_length, stands_passed, stands_refused}
-use borrow.Author.Rules.{rules}
 use Rattle.report.proofs.expected.stands.Goals as goal
 
 pub slice_bounds-add_bytes-end : goal.slice_bounds-add_bytes-end

@@ -1,7 +1,6 @@
 -- `report::mark::add_mark` meets its contract. Assumes nothing.
 use Rattle.report.specs.Compiled.{mark_text}
 use Rattle.print.proofs.AddedLaws.{filled_then}
-use borrow.Author.Rules.{rules}
 use Rattle.report.proofs.mark.add_mark.Goals as goal
 
 pub returns : goal.returns

@@ -3,7 +3,6 @@ use mathlib.Core.Path.{sym}
 use native.Mathlib.Omega.{arith}
 use Rattle.print.proofs.AddedLaws.{filled_as, filled_is, filled_then, filled_room}
 use Rattle.report.proofs.MarkLaws.{indent_length, indent_text}
-use borrow.Author.Rules.{rules}
 use Rattle.report.proofs.mark.add_pointer.Goals as goal
 
 pub slice_bounds-add_bytes-end : goal.slice_bounds-add_bytes-end

@@ -1,9 +1,5 @@
 -- `report::mark::add_shown` meets its contract: the bytes before i are shown. Assumes nothing.
-use Prim.Native.Nat.{◌+◌, ◌-◌, ◌≤◌}
-use lib.ListN.{length, take}
-use mathlib.Core.Path.{◌≡◌}
-use Rattle.print.specs.Written.{Added}
-use Rattle.report.proofs.MarkLaws.{shown, shown_start, shown_next, shown_end}
+use Rattle.report.proofs.MarkLaws.{shown_start, shown_next, shown_end}
 use borrow.Author.Rules.{rules}
 use Rattle.report.proofs.mark.add_shown.Goals as goal
 

@@ -3,8 +3,7 @@ use Prim.Native.Nat.{◌+◌, ◌-◌, ◌≤◌}
 use lib.ListN.{length, take}
 use mathlib.Core.Path.{◌≡◌}
 use Rattle.print.specs.Written.{Added}
-use Rattle.report.proofs.MarkLaws.{shown, shown_start, shown_next, shown_end}
-use borrow.Author.Rules.{rules}
+use Rattle.report.proofs.MarkLaws.{shown}
 use Rattle.report.proofs.mark.add_shown.Given as goal
 
 abbrev pub invariant-loop-i : goal.invariant-loop-i

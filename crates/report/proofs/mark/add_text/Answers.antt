@@ -3,7 +3,6 @@ use mathlib.Core.Path.{◌∙◌}
 use native.Mathlib.Omega.{arith}
 use Rattle.print.proofs.AddedLaws.{filled_as, filled_is, filled_then, filled_room}
 use Rattle.report.proofs.MarkLaws.{shown_few, shown_all}
-use borrow.Author.Rules.{rules}
 use Rattle.report.proofs.mark.add_text.Goals as goal
 
 pub add_shown-end-requires : goal.add_shown-end-requires

@@ -2,7 +2,6 @@
 use mathlib.Core.Path.{sym, ap, ◌∙◌}
 use mathlib.Core.Bool.{cond}
 use Prim.Native.Char.{code}
-use borrow.Author.Rules.{rules}
 use Rattle.report.proofs.mark.show.Goals as goal
 
 pub returns-then-is_between : goal.returns-then-is_between

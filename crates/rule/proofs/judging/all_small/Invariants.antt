@@ -1,15 +1,9 @@
 -- `rule::judging::all_small` meets its contract. The loop keeps: the or is small where the numbers passed are (`NumberLaws`). Assumes nothing.
-use Prim.Native.Nat.{ℕ, ◌-◌, ◌≤◌}
-use mathlib.Core.Path.{◌≡◌, refl, sym, ap, ◌∙◌}
-use mathlib.Core.Bool.{Bool, ◌&&◌}
-use mathlib.Core.List.{List}
-use native.Mathlib.Omega.{arith}
-use native.Mathlib.Numerals.{add-one}
+use Prim.Native.Nat.{◌-◌, ◌≤◌}
+use mathlib.Core.Path.{◌≡◌}
 use lib.Dec.{leb}
 use lib.ListN.{length, get_or}
-use borrow.Author.Rules.{rules}
 use Rattle.spec.specs.Questions.{all_below}
-use Rattle.rule.proofs.NumberLaws.{or_small}
 use Rattle.rule.proofs.judging.all_small.Given as goal
 
 abbrev pub invariant-loop-i : goal.invariant-loop-i

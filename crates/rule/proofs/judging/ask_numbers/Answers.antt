@@ -1,13 +1,7 @@
 -- `rule::judging::ask_numbers` meets its contract: the or of all numbers tells (`NumberLaws`), and else the loop is a scan for the lowest
 -- failing place (`QuestionLaws`). Assumes nothing.
-use Prim.Native.Nat.{ℕ, ◌-◌}
-use mathlib.Core.Path.{◌≡◌, sym, ap, ◌∙◌}
-use mathlib.Core.Bool.{Bool}
-use mathlib.Core.List.{List}
-use lib.ListN.{length, get_or}
-use borrow.Author.Rules.{rules}
-use Rattle.spec.proofs.QuestionLaws.{Scanned, scanned_start, scanned_next, scan_no, scan_yes}
-use lib.Dec.{leb}
+use mathlib.Core.Path.{sym, ◌∙◌}
+use Rattle.spec.proofs.QuestionLaws.{scanned_start, scanned_next, scan_no, scan_yes}
 use borrow.Author.Tests.{lt-leb, le-leb}
 use Rattle.spec.specs.Judging.{question15}
 use Rattle.rule.proofs.NumberLaws.{small_yes}

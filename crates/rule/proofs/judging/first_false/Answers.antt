@@ -8,7 +8,6 @@ use Rattle.spec.proofs.RuleLaws.{rule_out}
 use Rattle.rule.specs.Nodes.{form_in, table_in}
 use Rattle.rule.specs.Monitor.{watching}
 use Rattle.rule.proofs.WatchLaws.{watch_false}
-use borrow.Author.Rules.{rules}
 use Rattle.rule.proofs.judging.first_false.Goals as goal
 
 pub watch-w-requires : goal.watch-w-requires

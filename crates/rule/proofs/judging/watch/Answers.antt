@@ -4,11 +4,10 @@ use Prim.Native.Nat.{◌-◌, ◌*◌, ◌+◌}
 use mathlib.Core.Path.{◌≡◌, refl, sym, ap, ap₂, ◌∙◌}
 use native.Mathlib.Omega.{arith}
 use lib.ListN.{take, drop, length-take, length-drop}
-use borrow.Author.Tests.{not-true, not-false}
 use Rattle.spec.specs.Monitor.{moment_of, last_true}
 use Rattle.sets.specs.Sets.{set_of}
 use Rattle.rule.specs.Nodes.{table_in}
-use Rattle.rule.proofs.WatchLaws.{Left, watch_on, watch_stop, watch_end}
+use Rattle.rule.proofs.WatchLaws.{watch_on, watch_stop, watch_end}
 use borrow.Author.Rules.{rules}
 use Rattle.rule.proofs.judging.watch.Goals as goal
 

@@ -1,15 +1,9 @@
 -- `rule::judging::watch` meets its contract. The loop keeps `Left`: what is left of the states tells what all of them do (`WatchLaws`). The
 -- measure is the number of states left. Assumes nothing.
-use Prim.Native.Nat.{◌-◌, ◌*◌, ◌+◌}
-use mathlib.Core.Path.{◌≡◌, refl, sym, ap, ap₂, ◌∙◌}
-use native.Mathlib.Omega.{arith}
-use lib.ListN.{take, drop, length-take, length-drop}
-use borrow.Author.Tests.{not-true, not-false}
-use Rattle.spec.specs.Monitor.{moment_of, last_true}
+use Prim.Native.Nat.{◌-◌}
 use Rattle.sets.specs.Sets.{set_of}
 use Rattle.rule.specs.Nodes.{table_in}
-use Rattle.rule.proofs.WatchLaws.{Left, watch_on, watch_stop, watch_end}
-use borrow.Author.Rules.{rules}
+use Rattle.rule.proofs.WatchLaws.{Left}
 use Rattle.rule.proofs.judging.watch.Given as goal
 
 abbrev pub invariant-loop-i : goal.invariant-loop-i

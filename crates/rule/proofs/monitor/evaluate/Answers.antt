@@ -1,5 +1,4 @@
 -- `rule::monitor::evaluate` meets its contract. The loop keeps: what is worked out is that of the nodes below k. Assumes nothing.
-use Prim.Native.Nat.{◌-◌, ◌≤◌}
 use mathlib.Core.Path.{◌≡◌, sym, ap, ap₂, ◌∙◌}
 use native.Mathlib.Omega.{arith}
 use native.Mathlib.Numerals.{add-one}
@@ -11,7 +10,6 @@ use Rattle.spec.proofs.RuleLaws.{length_table}
 use Rattle.sets.specs.Sets.{set_of}
 use Rattle.sets.proofs.SetLaws.{empty_is}
 use Rattle.spec.specs.Monitor.{NodeSets, with_node, moment_below, moment_of}
-use Rattle.rule.specs.Monitor.{sets_of}
 use Rattle.rule.proofs.NodeLaws.{node_at_lem}
 use Rattle.rule.proofs.monitor.evaluate.Goals as goal
 

@@ -1,18 +1,12 @@
 -- `rule::monitor::evaluate` meets its contract. The loop keeps: what is worked out is that of the nodes below k. Assumes nothing.
 use Prim.Native.Nat.{◌-◌, ◌≤◌}
-use mathlib.Core.Path.{◌≡◌, sym, ap, ap₂, ◌∙◌}
-use native.Mathlib.Omega.{arith}
-use native.Mathlib.Numerals.{add-one}
+use mathlib.Core.Path.{◌≡◌}
 use lib.ListN.{length}
 use Rattle.rule.specs.Nodes.{form_in}
-use borrow.Author.Rules.{rules}
-use Rattle.spec.specs.Rule.{Node, table_of}
-use Rattle.spec.proofs.RuleLaws.{length_table}
+use Rattle.spec.specs.Rule.{table_of}
 use Rattle.sets.specs.Sets.{set_of}
-use Rattle.sets.proofs.SetLaws.{empty_is}
-use Rattle.spec.specs.Monitor.{NodeSets, with_node, moment_below, moment_of}
+use Rattle.spec.specs.Monitor.{moment_below}
 use Rattle.rule.specs.Monitor.{sets_of}
-use Rattle.rule.proofs.NodeLaws.{node_at_lem}
 use Rattle.rule.proofs.monitor.evaluate.Given as goal
 
 abbrev pub invariant-loop-k : goal.invariant-loop-k

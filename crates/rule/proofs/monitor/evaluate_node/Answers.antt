@@ -11,7 +11,6 @@ use Rattle.spec.specs.Monitor.{node_value, node_next}
 use Rattle.spec.proofs.MonitorLaws.{since_same}
 use Rattle.rule.specs.Monitor.{sets_of}
 use Rattle.rule.proofs.MonitorLaws.{joined_not, joins}
-use borrow.Author.Rules.{rules}
 use Rattle.rule.proofs.monitor.evaluate_node.Goals as goal
 
 pub offset_bounds-state-register : goal.offset_bounds-state-register

@@ -1,17 +1,11 @@
 -- `rule::monitor::first_priors` meets its contract. The loop keeps: the set is that of the nodes below k. Assumes nothing.
 use Prim.Native.Nat.{◌-◌, ◌≤◌}
-use mathlib.Core.Path.{◌≡◌, sym, ap, ap₂, ◌∙◌}
-use native.Mathlib.Omega.{arith}
-use native.Mathlib.Numerals.{add-one}
+use mathlib.Core.Path.{◌≡◌}
 use lib.ListN.{length}
 use Rattle.rule.specs.Nodes.{form_in}
-use borrow.Author.Rules.{rules}
-use Rattle.spec.specs.Rule.{table_of, is_weak_previous}
-use Rattle.spec.proofs.RuleLaws.{length_table}
-use Rattle.sets.specs.Sets.{set_of, adding}
-use Rattle.sets.proofs.SetLaws.{empty_is}
-use Rattle.rule.specs.Monitor.{first_below, first_priors}
-use Rattle.rule.proofs.NodeLaws.{node_at_lem}
+use Rattle.spec.specs.Rule.{table_of}
+use Rattle.sets.specs.Sets.{set_of}
+use Rattle.rule.specs.Monitor.{first_below}
 use Rattle.rule.proofs.monitor.first_priors.Given as goal
 
 abbrev pub invariant-loop-k : goal.invariant-loop-k

@@ -1,7 +1,6 @@
 -- `rule::monitor::join` meets its contract: a set for the values, one for the next priors. Assumes nothing.
 use mathlib.Core.Path.{◌∙◌}
 use Rattle.rule.proofs.MonitorLaws.{adding_joins}
-use borrow.Author.Rules.{rules}
 use Rattle.rule.proofs.monitor.join.Goals as goal
 
 pub returns : goal.returns

@@ -1,7 +1,6 @@
 -- `rule::monitor::register_at` meets its contract. Assumes nothing.
 use mathlib.Core.Path.{sym}
 use lib.ListN.{get_or-eq_default}
-use borrow.Author.Rules.{rules}
 use Rattle.rule.proofs.monitor.register_at.Goals as goal
 
 pub returns-else-r-state : goal.returns-else-r-state

@@ -1,12 +1,11 @@
 -- `rule::monitor::since_step` meets its contract: each arm is the equality at the truth values that its number shows. Assumes nothing.
-use Prim.Native.Nat.{ℕ, ◌+◌, ◌*◌, ◌/◌, ◌%◌, ◌≤◌, ◌<◌}
+use Prim.Native.Nat.{ℕ, ◌+◌, ◌*◌, ◌/◌, ◌%◌, ◌<◌}
 use mathlib.Core.Path.{◌≡◌, refl, sym, ap, ◌∙◌}
 use mathlib.Core.Bool.{Bool, true, false}
 use native.Mathlib.Omega.{arith}
 use lib.Dec.{eqb}
 use mir.Val.{bool_byte}
 use Rattle.spec.specs.Monitor.{since_step}
-use borrow.Author.Rules.{rules}
 use Rattle.rule.proofs.monitor.since_step.Goals as goal
 
 bit : (b : Bool) → bool_byte b < 2

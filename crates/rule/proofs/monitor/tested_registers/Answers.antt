@@ -1,5 +1,4 @@
 -- `rule::monitor::tested_registers` meets its contract. The loop keeps: the set is that of the nodes below k. Assumes nothing.
-use Prim.Native.Nat.{◌-◌, ◌≤◌}
 use mathlib.Core.Path.{◌≡◌, sym, ap, ap₂, ◌∙◌}
 use native.Mathlib.Omega.{arith}
 use native.Mathlib.Numerals.{add-one}
@@ -7,7 +6,7 @@ use lib.ListN.{length}
 use Rattle.spec.specs.Rule.{Node}
 use Rattle.spec.proofs.RuleLaws.{length_table}
 use Rattle.spec.specs.Monitor.{node_reads, rule_reads}
-use Rattle.sets.specs.Sets.{Nodes, set_of}
+use Rattle.sets.specs.Sets.{Nodes}
 use Rattle.sets.proofs.SetLaws.{empty_is}
 use Rattle.rule.specs.Nodes.{form_in, table_in}
 use Rattle.rule.specs.Monitor.{with_registers}

@@ -1,7 +1,6 @@
 -- `rule::monitor::with_register` meets its contract. Assumes nothing.
 use mathlib.Core.Path.{◌∙◌}
 use Rattle.rule.proofs.MonitorLaws.{register_joins}
-use borrow.Author.Rules.{rules}
 use Rattle.rule.proofs.monitor.with_register.Goals as goal
 
 pub returns : goal.returns

@@ -7,7 +7,6 @@ use Rattle.rule.specs.declared.node.Node.{Node}
 use Rattle.rule.specs.Nodes.{node_read}
 use Rattle.rule.specs.Monitor.{with_registers}
 use Rattle.rule.proofs.MonitorLaws.{none_join, both_join}
-use borrow.Author.Rules.{rules}
 use Rattle.rule.proofs.monitor.with_tested.Goals as goal
 
 -- what is told of the node is what it reads

@@ -6,7 +6,6 @@ use Rattle.spec.specs.Rule.{fields_fit, unused_zero}
 use Rattle.rule.specs.Nodes.{fields_by}
 use Rattle.rule.proofs.EitherLaws.{kind_by, register_by, constant_by}
 use Rattle.rule.proofs.NodeLaws.{allowed_kind}
-use borrow.Author.Rules.{rules}
 use Rattle.rule.proofs.node.fields_fit.Goals as goal
 
 pub returns : goal.returns

@@ -3,7 +3,6 @@ use Rattle.rule.specs.Nodes.{node_in}
 use mathlib.Core.Path.{sym, ap₂, ◌∙◌}
 use mathlib.Core.Bool.{◌||◌}
 use Rattle.rule.proofs.NodeLaws.{past_either}
-use borrow.Author.Rules.{rules}
 use Rattle.rule.proofs.node.is_past.Goals as goal
 
 pub returns : goal.returns

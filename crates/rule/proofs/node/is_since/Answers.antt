@@ -2,7 +2,6 @@
 use mathlib.Core.Path.{sym, ap, ◌∙◌}
 use lib.Dec.{eqb}
 use Rattle.rule.proofs.NodeLaws.{since_kind}
-use borrow.Author.Rules.{rules}
 use Rattle.rule.proofs.node.is_since.Goals as goal
 
 pub returns : goal.returns

@@ -1,10 +1,8 @@
 -- `rule::node::narrow_node` meets its contract: the fields, each at its place. Assumes nothing.
-use mathlib.Core.Path.{◌≡◌}
 use Rattle.spec.specs.Rule.{form32, form64}
 use Rattle.moves.specs.Moves.{narrow_node}
 use Rattle.rule.proofs.EitherLaws.{upper_fields}
 use native.Mathlib.Omega.{arith}
-use borrow.Author.Rules.{rules}
 use Rattle.rule.proofs.node.narrow_node.Goals as goal
 
 pub overflow_cast-result : goal.overflow_cast-result

@@ -6,7 +6,6 @@ use Rattle.spec.specs.Rule.{false_node, next_from}
 use Rattle.spec.proofs.RuleLaws.{length_table}
 use Rattle.rule.specs.Nodes.{fields_in, node_in, table_in}
 use Rattle.rule.proofs.NodeLaws.{kind_5, weak_kind, next_own, node_at_lem}
-use borrow.Author.Rules.{rules}
 use Rattle.rule.proofs.node.next_of.Goals as goal
 
 pub returns-then-is_weak_previous : goal.returns-then-is_weak_previous

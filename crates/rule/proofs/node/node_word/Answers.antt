@@ -3,7 +3,6 @@ use mathlib.Core.Path.{sym, ap, ◌∙◌, subst}
 use native.Mathlib.Omega.{arith}
 use Rattle.spec.specs.Rule.{fields_of_node}
 use Rattle.rule.specs.Nodes.{word_out, node_read, NodeSmall}
-use borrow.Author.Rules.{rules}
 use Rattle.rule.proofs.node.node_word.Goals as goal
 
 pub fields_word-requires : goal.fields_word-requires

@@ -8,7 +8,6 @@ use Rattle.spec.specs.Logic.{equal, below, equal_registers}
 use Rattle.spec.specs.Rule.{test_node, implies_node, since_node, weak_previous_node}
 use Rattle.rule.proofs.EitherLaws.{kind_by, register_by, constant_by, small_by}
 use Rattle.rule.proofs.NodeLaws.{kind_1, kind_2, kind_3, kind_4, kind_5, kind_6, other_kind}
-use borrow.Author.Rules.{rules}
 use Rattle.rule.proofs.node.read_either.Goals as goal
 
 pub overflow_cast-result : goal.overflow_cast-result
@@ -47,6 +46,6 @@ returns-in_default c = let w = c.args.word in let b = c.args.is_wide in
     let other : (n : ℕ) → (c.kind_of-kind.result ≡ n → ⊥) → (fields_by b w).kind ≡ n → ⊥ = λ n not z. not (e ∙ z) in
     record {
       node = sym (other_kind (fields_by b w) (other 1 (λ z. omega arith)) (other 2 (λ z. omega arith)) (other 3 (λ z. omega arith))
-        (other 4 (λ z. omega arith)) (other 5 (λ z. omega arith)) (other 6 (λ z. omega arith)));
+          (other 4 (λ z. omega arith)) (other 5 (λ z. omega arith)) (other 6 (λ z. omega arith)));
       small = tt;
     }

@@ -1,9 +1,8 @@
 -- `rule::node::right_of` meets its contract: the unit and the number of values are the form's (`EitherLaws`). Assumes nothing.
-use mathlib.Core.Path.{◌≡◌, sym, subst, ap₂, ◌∙◌}
+use mathlib.Core.Path.{sym, subst, ap₂, ◌∙◌}
 use Prim.Native.Nat.{◌/◌, ◌%◌, ◌^◌, ◌<◌}
 use Rattle.rule.proofs.EitherLaws.{right_by, positive_by}
 use native.Mathlib.Omega.{arith}
-use borrow.Author.Rules.{rules}
 use Rattle.rule.proofs.node.right_of.Goals as goal
 
 pub nonzero_div-result : goal.nonzero_div-result

@@ -5,7 +5,6 @@ use lib.Dec.{eqb}
 use Rattle.rule.specs.declared.node.Test.TheVariants.{Equal, Below, EqualRegisters}
 use Rattle.rule.specs.Nodes.{fields_in}
 use Rattle.rule.proofs.NodeLaws.{test_at}
-use borrow.Author.Rules.{rules}
 use Rattle.rule.proofs.node.same_test.Goals as goal
 
 pub returns-in-Equal : goal.returns-in-Equal

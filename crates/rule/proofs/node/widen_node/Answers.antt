@@ -1,10 +1,7 @@
 -- `rule::node::widen_node` meets its contract: the fields, each at its place. Assumes nothing.
-use mathlib.Core.Path.{◌≡◌}
-use Prim.Native.Nat.{◌+◌, ◌*◌, ◌/◌, ◌%◌}
 use Rattle.spec.specs.Rule.{form32, form64}
 use Rattle.moves.specs.Moves.{widen_node}
 use native.Mathlib.Omega.{arith}
-use borrow.Author.Rules.{rules}
 use Rattle.rule.proofs.node.widen_node.Goals as goal
 
 pub returns : goal.returns

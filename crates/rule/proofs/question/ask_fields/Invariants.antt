@@ -1,17 +1,11 @@
 -- `rule::question::ask_fields` meets its contract: the loop is a scan for the lowest failing place (`QuestionLaws`). Assumes nothing.
 use Prim.Native.Nat.{ℕ, ◌-◌}
-use mathlib.Core.Path.{◌≡◌, sym, ap, ◌∙◌}
 use mathlib.Core.Bool.{Bool}
 use mathlib.Core.List.{List}
 use lib.ListN.{length, get_or}
-use Rattle.rule.specs.Nodes.{fields_by}
-use borrow.Author.Rules.{rules}
-use borrow.Author.Tests.{not-true, not-false}
-use Rattle.spec.proofs.QuestionLaws.{Scanned, scanned_start, scanned_next, scan_no, scan_yes}
-use Rattle.spec.specs.Rule.{fields_fit, question2}
+use Rattle.spec.proofs.QuestionLaws.{Scanned}
+use Rattle.spec.specs.Rule.{fields_fit}
 use Rattle.rule.specs.Nodes.{form_by, stored_in}
-use Rattle.rule.proofs.EitherLaws.{fields_by_lem}
-use native.Mathlib.Omega.{arith}
 use Rattle.rule.proofs.question.ask_fields.Given as goal
 
 unfoldable pub ok : Bool → (narrow wide : List ℕ) → ℕ → Bool

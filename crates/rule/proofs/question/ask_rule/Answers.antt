@@ -1,5 +1,5 @@
 -- `rule::question::ask_rule` meets its contract: each return is one of the laws of `CheckLaws`. Assumes nothing.
-use mathlib.Core.Path.{◌≡◌, refl, sym, subst, ap, ◌∙◌}
+use mathlib.Core.Path.{refl, sym, subst, ap, ◌∙◌}
 use native.Mathlib.Omega.{arith}
 use Prim.Native.Nat.{◌-◌}
 use Rattle.spec.specs.Questions.{ask}
@@ -8,7 +8,6 @@ use Rattle.rule.specs.Nodes.{form_by, stored_in, table_by}
 use Rattle.rule.specs.Tally.{tallies_of, uses_of, Used}
 use Rattle.rule.proofs.CheckLaws.{many_none, many_no, fields_no, operands_no, last_yes}
 use Rattle.rule.proofs.TallyLaws.{ask_tallied}
-use borrow.Author.Rules.{rules}
 use Rattle.rule.proofs.question.ask_rule.Goals as goal
 
 pub returns-then-count-eq0 : goal.returns-then-count-eq0

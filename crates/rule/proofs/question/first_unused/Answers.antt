@@ -3,7 +3,6 @@ use mathlib.Core.Path.{sym}
 use native.Mathlib.Omega.{arith}
 use Rattle.spec.proofs.QuestionLaws.{scanned_up, scan_no, ask_in}
 use Rattle.rule.specs.Tally.{tallies_of}
-use borrow.Author.Rules.{rules}
 use Rattle.rule.proofs.question.first_unused.Goals as goal
 
 pub returns-then-k-count : goal.returns-then-k-count

@@ -1,8 +1,7 @@
 -- `rule::question::mention_node` meets its contract, set by set. Assumes nothing.
-use mathlib.Core.Path.{◌≡◌, refl, sym, ap, ◌∙◌}
+use mathlib.Core.Path.{ap, ◌∙◌}
 use Rattle.sets.specs.Sets.{set_of, adding}
-use Rattle.rule.specs.Tally.{Tallied, mention}
-use borrow.Author.Rules.{rules}
+use Rattle.rule.specs.Tally.{mention}
 use Rattle.rule.proofs.question.mention_node.Goals as goal
 
 pub returns : goal.returns

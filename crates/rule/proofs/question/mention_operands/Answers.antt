@@ -1,7 +1,6 @@
 -- `rule::question::mention_operands` meets its contract, by the kind of the node. Assumes nothing.
-use mathlib.Core.Path.{◌≡◌, refl, sym, ap, ◌∙◌}
-use Rattle.rule.specs.Tally.{Tallied, tallies_of, mention, mention_all}
-use borrow.Author.Rules.{rules}
+use mathlib.Core.Path.{ap, ◌∙◌}
+use Rattle.rule.specs.Tally.{mention, mention_all}
 use Rattle.rule.proofs.question.mention_operands.Goals as goal
 
 pub returns-in-Implies : goal.returns-in-Implies

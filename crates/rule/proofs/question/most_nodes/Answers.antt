@@ -2,7 +2,6 @@
 use mathlib.Core.Path.{sym, ap}
 use Rattle.spec.specs.Rule.{form32, form64}
 use Rattle.rule.specs.Nodes.{form_by}
-use borrow.Author.Rules.{rules}
 use Rattle.rule.proofs.question.most_nodes.Goals as goal
 
 pub returns-then-is_wide : goal.returns-then-is_wide

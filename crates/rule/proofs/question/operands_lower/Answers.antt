@@ -1,7 +1,5 @@
 -- `rule::question::operands_lower` meets its contract, by the kind of the node. Assumes nothing.
-use mathlib.Core.Path.{◌≡◌, refl, sym, ap, ◌∙◌}
 use mathlib.Core.Bool.{and-true}
-use borrow.Author.Rules.{rules}
 use Rattle.rule.proofs.question.operands_lower.Goals as goal
 
 pub returns-in-Implies : goal.returns-in-Implies

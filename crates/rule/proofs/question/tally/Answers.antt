@@ -1,14 +1,12 @@
 -- `rule::question::tally` meets its contract. The loop keeps: with the nodes from k on, the tallies are those of the table (`TallyLaws`).
 -- Assumes nothing.
-use Prim.Native.Nat.{◌-◌, ◌≤◌}
-use mathlib.Core.Path.{◌≡◌, ap, ◌∙◌}
-use lib.ListN.{drop}
-use Rattle.rule.specs.Nodes.{node_by, table_by}
+use mathlib.Core.Path.{ap, ◌∙◌}
+use Rattle.rule.specs.Nodes.{node_by}
 use native.Mathlib.Omega.{arith}
 use borrow.Author.Rules.{rules}
 use Rattle.spec.specs.Rule.{operands}
 use Rattle.sets.proofs.SetLaws.{empty_is}
-use Rattle.rule.specs.Tally.{tallies_of, mention_table, mention_all, tallied}
+use Rattle.rule.specs.Tally.{tallies_of, mention_all}
 use Rattle.rule.proofs.TallyLaws.{tally_start, tally_next, tally_end}
 use Rattle.rule.proofs.question.tally.Goals as goal
 

@@ -4,7 +4,6 @@ use native.Mathlib.Omega.{arith}
 use Rattle.spec.specs.Rule.{is_past}
 use Rattle.rule.specs.Nodes.{node_by}
 use Rattle.rule.proofs.EitherLaws.{past_by, node_by_lem, past_end}
-use borrow.Author.Rules.{rules}
 use Rattle.rule.proofs.shared.past_at.Goals as goal
 
 pub word_at-requires : goal.word_at-requires

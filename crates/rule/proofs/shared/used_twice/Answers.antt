@@ -1,6 +1,5 @@
 -- `rule::shared::used_twice` meets its contract: the second of question 4's two sets (`TallyLaws`). Assumes nothing.
 use mathlib.Core.Path.{ap, ◌∙◌}
-use borrow.Author.Rules.{rules}
 use Rattle.rule.proofs.TallyLaws.{used_twice}
 use Rattle.rule.proofs.shared.used_twice.Goals as goal
 

@@ -2,7 +2,6 @@
 use mathlib.Core.Path.{◌≡◌, sym, ap, ◌∙◌}
 use mathlib.Core.Bool.{false, ◌||◌}
 use Rattle.rule.specs.Nodes.{table_by}
-use borrow.Author.Rules.{rules}
 use lib.Dec.{leb}
 use Rattle.spec.specs.Rule.{node_at, is_past, mentions}
 use Rattle.spec.proofs.MentionLaws.{past_has_work, work_is_lem}

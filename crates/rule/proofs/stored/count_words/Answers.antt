@@ -2,7 +2,6 @@
 use mathlib.Core.Path.{sym, ap}
 use lib.ListN.{length}
 use Rattle.rule.specs.Nodes.{stored_in}
-use borrow.Author.Rules.{rules}
 use Rattle.rule.proofs.stored.count_words.Goals as goal
 
 pub returns-then-is_wide : goal.returns-then-is_wide

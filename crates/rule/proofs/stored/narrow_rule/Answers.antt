@@ -1,9 +1,6 @@
 -- `rule::stored::narrow_rule` meets its contract: the loop keeps that the first words have moved (`CopyLaws`). Assumes nothing.
-use Prim.Native.Nat.{◌-◌}
-use lib.ListN.{length}
 use Rattle.moves.specs.Moves.{narrow_node}
-use Rattle.rule.proofs.CopyLaws.{Copied, copied_start, copied_next, copied_room, copied_end}
-use borrow.Author.Rules.{rules}
+use Rattle.rule.proofs.CopyLaws.{copied_start, copied_next, copied_room, copied_end}
 use Rattle.rule.proofs.stored.narrow_rule.Goals as goal
 
 pub loop-k-init : goal.loop-k-init

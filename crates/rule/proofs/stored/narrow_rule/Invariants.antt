@@ -2,8 +2,7 @@
 use Prim.Native.Nat.{◌-◌}
 use lib.ListN.{length}
 use Rattle.moves.specs.Moves.{narrow_node}
-use Rattle.rule.proofs.CopyLaws.{Copied, copied_start, copied_next, copied_room, copied_end}
-use borrow.Author.Rules.{rules}
+use Rattle.rule.proofs.CopyLaws.{Copied}
 use Rattle.rule.proofs.stored.narrow_rule.Given as goal
 
 abbrev pub invariant-loop-k : goal.invariant-loop-k

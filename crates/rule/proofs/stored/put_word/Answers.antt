@@ -6,7 +6,6 @@ use lib.ListN.{length, set}
 use Rattle.rule.specs.Nodes.{stored_in, word_by}
 use Rattle.rule.proofs.PutLaws.{put_one}
 use native.Mathlib.Omega.{arith}
-use borrow.Author.Rules.{rules}
 use Rattle.rule.proofs.stored.put_word.Goals as goal
 
 pub offset_bounds-wide-i : goal.offset_bounds-wide-i

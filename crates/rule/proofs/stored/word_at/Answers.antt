@@ -5,7 +5,6 @@ use lib.ListN.{length, get_or, get_or-map}
 use Rattle.moves.specs.Moves.{widen_word}
 use Rattle.rule.specs.Nodes.{stored_in, words_in}
 use native.Mathlib.Omega.{arith}
-use borrow.Author.Rules.{rules}
 use Rattle.rule.proofs.stored.word_at.Goals as goal
 
 pub offset_bounds-wide-i : goal.offset_bounds-wide-i

@@ -2,7 +2,6 @@
 use mathlib.Core.Path.{refl}
 use native.Mathlib.Omega.{arith}
 use Rattle.spec.specs.Script.{fields_of}
-use borrow.Author.Rules.{rules}
 use Rattle.script.proofs.instruction.decode.Goals as goal
 
 pub returns : goal.returns

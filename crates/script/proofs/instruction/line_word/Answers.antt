@@ -4,7 +4,6 @@ use Rattle.moves.specs.Moves.{narrow_word}
 use Rattle.rule.proofs.EitherLaws.{size_most}
 use Rattle.script.proofs.LineLaws.{word_half}
 use native.Mathlib.Omega.{arith}
-use borrow.Author.Rules.{rules}
 use Rattle.script.proofs.instruction.line_word.Goals as goal
 
 pub overflow_mul-l : goal.overflow_mul-l

@@ -1,19 +1,16 @@
 -- `script::line::ask_allowed` meets its contract: the loop is a scan for the lowest failing place (`QuestionLaws`), with `at` where line l
 -- starts (`StrideLaws`). Assumes nothing.
-use Prim.Native.Nat.{◌+◌, ◌*◌, ◌-◌, ◌<◌, ◌≤◌}
-use mathlib.Core.Path.{◌≡◌, sym, ap, ◌∙◌}
+use Prim.Native.Nat.{◌+◌}
+use mathlib.Core.Path.{sym, ap, ◌∙◌}
 use mathlib.Core.Bool.{true}
 use native.Mathlib.Omega.{arith}
 use lib.ListN.{length, get_or}
-use borrow.Author.Tests.{not-true, not-false}
-use Rattle.spec.proofs.QuestionLaws.{Scanned, scanned_start, scanned_next, scan_no, scan_yes}
-use Rattle.spec.specs.Rule.{Table}
+use Rattle.spec.proofs.QuestionLaws.{scanned_start, scanned_next, scan_no, scan_yes}
 use Rattle.spec.specs.Script.{line_allowed, question6}
 use Rattle.rule.specs.Nodes.{stored_in, words_in}
 use Rattle.rule.proofs.EitherLaws.{size_most}
-use Rattle.script.specs.Lines.{opcodes_of, Known, first_allowed, strided}
+use Rattle.script.specs.Lines.{opcodes_of, first_allowed, strided}
 use Rattle.script.proofs.StrideLaws.{stride_in, stride_next, stride_step, allowed_at}
-use borrow.Author.Rules.{rules}
 use Rattle.script.proofs.line.ask_allowed.Goals as goal
 
 pub loop-l-init : goal.loop-l-init

@@ -1,19 +1,14 @@
 -- `script::line::ask_followers` meets its contract: the loop is a scan for the lowest failing place (`QuestionLaws`), with `at` where line l
 -- starts (`StrideLaws`). Assumes nothing.
-use Prim.Native.Nat.{ℕ, ◌+◌, ◌*◌, ◌-◌, ◌<◌, ◌≤◌}
-use mathlib.Core.Path.{◌≡◌, sym, ap, ◌∙◌}
+use Prim.Native.Nat.{ℕ, ◌*◌, ◌-◌, ◌<◌, ◌≤◌}
+use mathlib.Core.Path.{◌≡◌}
 use mathlib.Core.Bool.{Bool}
 use mathlib.Core.List.{List}
-use native.Mathlib.Omega.{arith}
 use lib.ListN.{length, get_or}
-use borrow.Author.Tests.{not-true, not-false}
-use Rattle.spec.proofs.QuestionLaws.{Scanned, scanned_start, scanned_next, scan_no, scan_yes}
-use Rattle.spec.specs.Script.{fields_of, instruction_of, instruction_read, followers_exist, question7}
+use Rattle.spec.proofs.QuestionLaws.{Scanned}
+use Rattle.spec.specs.Script.{instruction_read, followers_exist}
 use Rattle.moves.specs.Moves.{narrow_word}
 use Rattle.rule.specs.Nodes.{stored_in, words_in}
-use Rattle.rule.proofs.EitherLaws.{size_most}
-use Rattle.script.proofs.StrideLaws.{stride_in, stride_next, stride_step}
-use borrow.Author.Rules.{rules}
 use Rattle.script.proofs.line.ask_followers.Given as goal
 
 abbrev pub ok : (stride lines : ℕ) → List ℕ → ℕ → Bool

@@ -1,11 +1,9 @@
 -- `script::line::check_code` meets its contract: questions 5 to 7 in turn (`StrideLaws`). Assumes nothing.
 use mathlib.Core.Path.{sym, ap, ◌∙◌}
-use borrow.Author.Tests.{not-true, not-false}
 use Rattle.rule.specs.Answers.{answer_of}
 use Rattle.rule.specs.Nodes.{words_in}
 use Rattle.script.specs.Lines.{opcodes_of}
 use Rattle.script.proofs.StrideLaws.{lines_no, allowed_no, last_yes}
-use borrow.Author.Rules.{rules}
 use Rattle.script.proofs.line.check_code.Goals as goal
 
 pub returns-then-not-whole-lines : goal.returns-then-not-whole-lines

@@ -5,7 +5,6 @@ use Prim.Native.Nat.{◌%◌, ◌^◌}
 use lib.Dec.{eqb}
 use Rattle.spec.specs.Script.{fields_of, stored_fit}
 use Rattle.script.specs.Lines.{opcodes_of, register_named, first_fits}
-use borrow.Author.Rules.{rules}
 use Rattle.script.proofs.line.first_fits.Goals as goal
 
 pub returns : goal.returns

@@ -1,7 +1,6 @@
 -- `script::line::followers_exist` meets its contract (`LineLaws`). Assumes nothing.
 use Rattle.script.specs.Lines.{instruction_in}
 use Rattle.script.proofs.LineLaws.{follow_by}
-use borrow.Author.Rules.{rules}
 use Rattle.script.proofs.line.followers_exist.Goals as goal
 
 pub returns : goal.returns

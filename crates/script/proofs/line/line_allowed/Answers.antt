@@ -7,7 +7,6 @@ use Rattle.spec.specs.Script.{Fields, fields_of, instruction_of, stored_fit, nam
 use Rattle.moves.specs.Moves.{narrow_word}
 use Rattle.script.specs.Lines.{opcodes_of, register_named, first_fits, first_allowed}
 use Rattle.script.proofs.LineLaws.{allowed_by}
-use borrow.Author.Rules.{rules}
 use Rattle.script.proofs.line.line_allowed.Goals as goal
 
 pub returns : goal.returns

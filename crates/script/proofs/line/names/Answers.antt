@@ -4,7 +4,6 @@ use Rattle.spec.proofs.OpcodeLaws.{opcode_9, opcode_10, opcode_11, opcode_12}
 use Rattle.spec.specs.Script.{names_allowed}
 use Rattle.script.specs.Lines.{fields_in}
 use Rattle.script.proofs.LineLaws.{names_node, names_other, bare_names}
-use borrow.Author.Rules.{rules}
 use Rattle.script.proofs.line.names.Goals as goal
 
 pub returns-in-9 : goal.returns-in-9

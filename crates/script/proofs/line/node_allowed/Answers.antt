@@ -4,7 +4,6 @@ use mathlib.Core.Bool.{◌&&◌}
 use Rattle.script.specs.Lines.{fields_in, register_named, is_named}
 use Rattle.script.proofs.LineLaws.{node_known}
 use Rattle.script.specs.declared.line.Named.TheVariants.{Past, Work}
-use borrow.Author.Rules.{rules}
 use Rattle.script.proofs.line.node_allowed.Goals as goal
 
 pub returns-in-Nothing : goal.returns-in-Nothing

@@ -1,5 +1,4 @@
 -- `script::line::opcode_allowed` meets its contract: the code writes the definition out. Assumes nothing.
-use borrow.Author.Rules.{rules}
 use Rattle.script.proofs.line.opcode_allowed.Goals as goal
 
 pub returns-in-Bare : goal.returns-in-Bare

@@ -2,9 +2,8 @@
 use Rattle.script.specs.Lines.{fields_in}
 use mathlib.Core.Bool.{◌&&◌}
 use lib.Dec.{eqb}
-use mathlib.Core.Path.{◌≡◌, refl, sym, ap, ◌∙◌}
+use mathlib.Core.Path.{sym, ◌∙◌}
 use mathlib.Core.Bool.{and-true}
-use native.Mathlib.Omega.{arith}
 use lib.Dec.{leb}
 use borrow.Author.Tests.{ne_eqb}
 use Rattle.spec.specs.Script.{halt, fields_for}

@@ -5,7 +5,6 @@ use Rattle.turns.specs.Stations.{four, at_station}
 use Rattle.rule.specs.Answers.{answer_of}
 use Rattle.stations.specs.Views.{stations_of}
 use Rattle.stations.proofs.AskLaws.{no_0, no_1, no_2, last_3}
-use borrow.Author.Rules.{rules}
 use Rattle.stations.proofs.questions.ask_inputs.Goals as goal
 
 pub returns-in_default : goal.returns-in_default

@@ -2,7 +2,6 @@
 use mathlib.Core.Path.{sym, ap}
 use Rattle.turns.specs.Stations.{at_station}
 use Rattle.rule.specs.Answers.{answer_of}
-use borrow.Author.Rules.{rules}
 use Rattle.stations.proofs.questions.at_station.Goals as goal
 
 pub returns-in-Passed : goal.returns-in-Passed

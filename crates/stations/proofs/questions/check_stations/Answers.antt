@@ -6,7 +6,6 @@ use Rattle.rule.specs.Answers.{answer_of}
 use Rattle.rule.specs.Nodes.{form_by}
 use Rattle.stations.specs.Views.{either_of, stations_of}
 use Rattle.stations.proofs.AskLaws.{no_0, no_1, no_2, last_3}
-use borrow.Author.Rules.{rules}
 use Rattle.stations.proofs.questions.check_stations.Goals as goal
 
 pub returns-in_default : goal.returns-in_default

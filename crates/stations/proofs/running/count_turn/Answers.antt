@@ -1,7 +1,6 @@
 -- `stations::running::count_turn` meets its contract. Assumes nothing.
 use Rattle.stations.specs.Turns.{counted}
 use mathlib.Core.Path.{sym, ap}
-use borrow.Author.Rules.{rules}
 use Rattle.stations.proofs.running.count_turn.Goals as goal
 
 pub returns-then-moved : goal.returns-then-moved

@@ -2,17 +2,12 @@
 -- (`RunningLaws.InRun`), and the lent histories keep their lengths. The measure is what is left of the budget. Each branch is the turn of
 -- one station (`RunningLaws.turned`). Assumes nothing.
 use mathlib.Core.Path.{◌≡◌, refl, ◌∙◌}
-use Prim.Native.Nat.{◌-◌, ◌%◌}
+use Prim.Native.Nat.{◌%◌}
 use native.Mathlib.Omega.{arith}
-use lib.ListN.{length}
 use Rattle.turns.specs.Stations.{four}
 use Rattle.rule.specs.Nodes.{form_by}
-use Rattle.machine.specs.declared.Machine.{Machine}
-use Rattle.stations.specs.declared.Counts.{Counts}
-use Rattle.stations.specs.declared.Progress.{Progress}
 use Rattle.stations.specs.Views.{either_of, stations_of}
-use Rattle.stations.proofs.RunningLaws.{InRun, turned, in_run_start, in_run_goes, in_run_turns, in_run_next, in_run_ends}
-use borrow.Author.Rules.{rules}
+use Rattle.stations.proofs.RunningLaws.{turned, in_run_start, in_run_goes, in_run_turns, in_run_next, in_run_ends}
 use Rattle.stations.proofs.running.run_turns.Invariants.{progress}
 use Rattle.stations.proofs.running.run_turns.Goals as goal
 

@@ -1,9 +1,8 @@
 -- `stations::running::run_turns` meets its contract. The loop keeps: from here, what is left of the budget makes the whole run
 -- (`RunningLaws.InRun`), and the lent histories keep their lengths. The measure is what is left of the budget. Each branch is the turn of
 -- one station (`RunningLaws.turned`). Assumes nothing.
-use mathlib.Core.Path.{◌≡◌, refl, ◌∙◌}
-use Prim.Native.Nat.{◌-◌, ◌%◌}
-use native.Mathlib.Omega.{arith}
+use mathlib.Core.Path.{◌≡◌}
+use Prim.Native.Nat.{◌-◌}
 use lib.ListN.{length}
 use Rattle.turns.specs.Stations.{four}
 use Rattle.rule.specs.Nodes.{form_by}
@@ -11,8 +10,7 @@ use Rattle.machine.specs.declared.Machine.{Machine}
 use Rattle.stations.specs.declared.Counts.{Counts}
 use Rattle.stations.specs.declared.Progress.{Progress}
 use Rattle.stations.specs.Views.{either_of, stations_of}
-use Rattle.stations.proofs.RunningLaws.{InRun, turned, in_run_start, in_run_goes, in_run_turns, in_run_next, in_run_ends}
-use borrow.Author.Rules.{rules}
+use Rattle.stations.proofs.RunningLaws.{InRun}
 use Rattle.stations.proofs.running.run_turns.Given as goal
 
 abbrev pub progress : (first second third fourth : Machine) → Counts → Progress

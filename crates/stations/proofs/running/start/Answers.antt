@@ -1,6 +1,5 @@
 -- `stations::running::start` meets its contract: four fresh machines. Assumes nothing.
 use Rattle.turns.specs.Stations.{started, four}
-use borrow.Author.Rules.{rules}
 use Rattle.stations.proofs.running.start.Goals as goal
 
 pub returns : goal.returns

@@ -1,7 +1,6 @@
 -- `stations::turning::instruction_at` meets its contract (`TurnLaws`). Assumes nothing.
 use native.Mathlib.Omega.{arith}
 use Rattle.stations.proofs.TurnLaws.{past_end, at_line_lem}
-use borrow.Author.Rules.{rules}
 use Rattle.stations.proofs.turning.instruction_at.Goals as goal
 
 pub returns-then-count_lines-line : goal.returns-then-count_lines-line

@@ -3,7 +3,6 @@ use mathlib.Core.Path.{◌≡◌, ◌∙◌}
 use Prim.Native.Nat.{◌-◌}
 use native.Mathlib.Omega.{arith}
 use Rattle.stations.proofs.TurnLaws.{left_present, left_other}
-use borrow.Author.Rules.{rules}
 use Rattle.stations.proofs.turning.left_after.Goals as goal
 
 pub returns-then-left-eq0 : goal.returns-then-left-eq0

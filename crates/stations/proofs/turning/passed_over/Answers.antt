@@ -3,7 +3,6 @@ use mathlib.Core.Path.{ap₂}
 use mathlib.Core.Bool.{◌&&◌, ◌||◌}
 use lib.Dec.{eqb}
 use Rattle.turns.specs.Stations.{passed_at}
-use borrow.Author.Rules.{rules}
 use Rattle.stations.proofs.turning.passed_over.Goals as goal
 
 pub returns : goal.returns

@@ -4,7 +4,6 @@ use Rattle.turns.specs.Stations.{station}
 use Rattle.rule.specs.Nodes.{form_by, stored_in}
 use Rattle.machine.specs.Machines.{state_of}
 use Rattle.stations.proofs.TurnLaws.{taken_pass, taken_step}
-use borrow.Author.Rules.{rules}
 use Rattle.stations.proofs.turning.take_turn.Goals as goal
 
 pub returns-then-passed_over : goal.returns-then-passed_over

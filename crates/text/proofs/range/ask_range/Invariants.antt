@@ -1,11 +1,8 @@
 -- `text::range::ask_range` meets its contract: the places passed start no number out of range (`InRangeLaws.Ranging`). What is left of the
 -- text falls. Assumes nothing.
-use mathlib.Core.Path.{sym, ◌∙◌}
 use Prim.Native.Nat.{◌-◌}
 use lib.ListN.{length}
-use borrow.Author.Tests.{not-true, not-false}
-use borrow.Author.Rules.{rules}
-use Rattle.text.proofs.InRangeLaws.{Ranging, ranging_start, ranging_next, ranging_stop, ranging_end}
+use Rattle.text.proofs.InRangeLaws.{Ranging}
 use Rattle.text.proofs.range.ask_range.Given as goal
 
 abbrev pub invariant-loop-i : goal.invariant-loop-i

@@ -1,8 +1,6 @@
 -- `text::range::in_range` meets its contract. Assumes nothing.
 use mathlib.Core.Path.{sym, ap, ap₂, ◌∙◌}
 use lib.Dec.{leb}
-use borrow.Author.Tests.{not-true, not-false}
-use borrow.Author.Rules.{rules}
 use Rattle.grammar.specs.Texting.{most_after}
 use Rattle.grammar.specs.Grammar.{is_digit}
 use Rattle.text.proofs.InRangeLaws.{in_range_other, in_range_inside, in_range_start}

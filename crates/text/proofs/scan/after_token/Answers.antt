@@ -2,7 +2,6 @@
 use mathlib.Core.Bool.{false}
 use mathlib.Core.Path.{sym, ap, ◌∙◌}
 use native.Mathlib.Numerals.{add-one}
-use borrow.Author.Rules.{rules}
 use Rattle.grammar.specs.Scan.{between}
 use Rattle.grammar.specs.Place.{at, operand, operator}
 use Rattle.text.specs.Places.{scan_after}

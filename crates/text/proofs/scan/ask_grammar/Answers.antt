@@ -1,12 +1,9 @@
 -- `text::scan::ask_grammar` meets its contract: the scan has come to the place (`TurnLaws.Turning`). What is left of the text falls.
 -- Assumes nothing.
 use mathlib.Core.Path.{sym, subst, ◌∙◌}
-use Prim.Native.Nat.{◌-◌}
 use native.Mathlib.Omega.{arith}
-use lib.ListN.{length}
-use borrow.Author.Rules.{rules}
 use Rattle.text.specs.Places.{scan_of, Over, Reads}
-use Rattle.text.proofs.TurnLaws.{Turning, turning_start, turning_next, turning_stuck, turning_ends, turning_short}
+use Rattle.text.proofs.TurnLaws.{turning_start, turning_next, turning_stuck, turning_ends, turning_short}
 use Rattle.text.proofs.scan.ask_grammar.Goals as goal
 
 pub loop-at-init : goal.loop-at-init

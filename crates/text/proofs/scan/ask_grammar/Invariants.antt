@@ -1,12 +1,8 @@
 -- `text::scan::ask_grammar` meets its contract: the scan has come to the place (`TurnLaws.Turning`). What is left of the text falls.
 -- Assumes nothing.
-use mathlib.Core.Path.{sym, subst, ◌∙◌}
 use Prim.Native.Nat.{◌-◌}
-use native.Mathlib.Omega.{arith}
 use lib.ListN.{length}
-use borrow.Author.Rules.{rules}
-use Rattle.text.specs.Places.{scan_of, Over, Reads}
-use Rattle.text.proofs.TurnLaws.{Turning, turning_start, turning_next, turning_stuck, turning_ends, turning_short}
+use Rattle.text.proofs.TurnLaws.{Turning}
 use Rattle.text.proofs.scan.ask_grammar.Given as goal
 
 abbrev pub invariant-loop-at : goal.invariant-loop-at

@@ -1,6 +1,5 @@
 -- `text::scan::may_end` meets its contract. Assumes nothing.
 use mathlib.Core.Path.{sym, ap}
-use borrow.Author.Rules.{rules}
 use Rattle.grammar.specs.Place.{may_end_at}
 use Rattle.text.specs.Places.{want_of}
 use Rattle.text.proofs.scan.may_end.Goals as goal

@@ -1,6 +1,5 @@
 -- `text::scan::read_close` meets its contract. Assumes nothing.
 use mathlib.Core.Path.{sym, ap, ◌∙◌}
-use borrow.Author.Rules.{rules}
 use Rattle.text.specs.Places.{close_at}
 use Rattle.text.proofs.OverLaws.{close_some}
 use Rattle.text.proofs.scan.read_close.Goals as goal

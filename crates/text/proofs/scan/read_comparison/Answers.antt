@@ -1,6 +1,5 @@
 -- `text::scan::read_comparison` meets its contract. Assumes nothing.
 use mathlib.Core.Path.{refl, sym, subst}
-use borrow.Author.Rules.{rules}
 use Rattle.grammar.specs.Place.{at, comparison, constant_number}
 use Rattle.grammar.specs.Grammar.{equal_sign, below_sign}
 use Rattle.text.specs.Places.{Reads}

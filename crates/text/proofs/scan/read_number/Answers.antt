@@ -1,5 +1,4 @@
 -- `text::scan::read_number` meets its contract. Assumes nothing.
-use borrow.Author.Rules.{rules}
 use Rattle.text.proofs.OverLaws.{number_over, no_number}
 use Rattle.text.proofs.scan.read_number.Goals as goal
 

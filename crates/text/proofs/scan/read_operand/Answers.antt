@@ -3,7 +3,6 @@ use mathlib.Core.Bool.{true, false}
 use mathlib.Core.Path.{refl, sym, subst}
 use Prim.Native.Nat.{suc}
 use lib.ListN.{get_or}
-use borrow.Author.Rules.{rules}
 use Rattle.grammar.specs.Scan.{words_for}
 use Rattle.grammar.specs.Typed.{not, wprev, prev, once, sofar}
 use Rattle.grammar.specs.Place.{at, operand, operator}

@@ -1,7 +1,6 @@
 -- `text::scan::read_operator` meets its contract. Assumes nothing.
 use mathlib.Core.Path.{refl, sym, subst}
 use lib.ListN.{get_or}
-use borrow.Author.Rules.{rules}
 use Rattle.grammar.specs.Scan.{words_for}
 use Rattle.grammar.specs.Place.{at, operand}
 use Rattle.grammar.specs.Grammar.{operator_word}

@@ -4,7 +4,6 @@ use mathlib.Core.Option.{some}
 use mathlib.Core.Path.{◌≡◌, sym, subst}
 use Prim.Native.Nat.{◌+◌}
 use lib.ListN.{drop}
-use borrow.Author.Rules.{rules}
 use Rattle.grammar.specs.Scan.{between, stuck_from}
 use Rattle.grammar.specs.Place.{at, comparison}
 use Rattle.text.specs.Places.{scan_at, Over}

@@ -1,6 +1,5 @@
 -- `text::scan::read_token` meets its contract. Assumes nothing.
 use mathlib.Core.Path.{sym, subst}
-use borrow.Author.Rules.{rules}
 use Rattle.grammar.specs.Place.{at}
 use Rattle.text.specs.Places.{want_of, Reads}
 use Rattle.text.proofs.OverLaws.{space_over}

@@ -1,6 +1,5 @@
 -- `text::stack::ends_top` meets its contract. Assumes nothing.
 use native.Mathlib.Omega.{arith}
-use borrow.Author.Rules.{rules}
 use Rattle.text.proofs.UnwindLaws.{no_top, top_deeper, top_shallower, top_level}
 use Rattle.text.proofs.stack.ends_top.Goals as goal
 

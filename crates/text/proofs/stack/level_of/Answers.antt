@@ -1,6 +1,5 @@
 -- `text::stack::level_of` meets its contract. Assumes nothing.
 use native.Mathlib.Omega.{arith}
-use borrow.Author.Rules.{rules}
 use Rattle.text.proofs.UnwindLaws.{level_tight, level_loose}
 use Rattle.text.proofs.stack.level_of.Goals as goal
 

@@ -4,7 +4,6 @@ use Prim.Native.Nat.{◌+◌, ◌*◌}
 use native.Mathlib.Omega.{arith}
 use native.Mathlib.Numerals.{add-one}
 use lib.ListN.{set}
-use borrow.Author.Rules.{rules}
 use Rattle.text.specs.Stacks.{stack_of}
 use Rattle.text.proofs.StackLaws.{pushed_length, stack_pushed}
 use Rattle.text.proofs.stack.push.Goals as goal

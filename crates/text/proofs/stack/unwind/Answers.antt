@@ -2,7 +2,7 @@
 use mathlib.Core.Path.{sym, ◌∙◌}
 use native.Mathlib.Omega.{arith}
 use Rattle.grammar.specs.Reading.{rank}
-use Rattle.text.proofs.UnwindLaws.{few_waiting, Unwinding, unwinding_start, unwinding_some, unwinding_room, unwinding_next, unwinding_stop}
+use Rattle.text.proofs.UnwindLaws.{few_waiting, unwinding_start, unwinding_some, unwinding_room, unwinding_next, unwinding_stop}
 use Rattle.text.proofs.stack.unwind.Goals as goal
 
 pub loop-base-init : goal.loop-base-init

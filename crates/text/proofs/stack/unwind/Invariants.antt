@@ -1,8 +1,6 @@
 -- `text::stack::unwind` meets its contract: what ends on the way comes to the same (`UnwindLaws.Unwinding`). The number of words falls. Assumes nothing.
-use mathlib.Core.Path.{sym, ◌∙◌}
-use native.Mathlib.Omega.{arith}
 use Rattle.grammar.specs.Reading.{rank}
-use Rattle.text.proofs.UnwindLaws.{few_waiting, Unwinding, unwinding_start, unwinding_some, unwinding_room, unwinding_next, unwinding_stop}
+use Rattle.text.proofs.UnwindLaws.{Unwinding}
 use Rattle.text.proofs.stack.unwind.Given as goal
 
 abbrev pub invariant-loop-base : goal.invariant-loop-base

@@ -1,5 +1,4 @@
 -- `text::table::put_false` meets its contract: false is put. Assumes nothing.
-use borrow.Author.Rules.{rules}
 use Rattle.text.proofs.table.put_false.Goals as goal
 
 pub put_node-requires : goal.put_node-requires

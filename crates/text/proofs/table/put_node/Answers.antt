@@ -1,6 +1,5 @@
 -- `text::table::put_node` meets its contract: by `HoldLaws`. Assumes nothing.
 use Rattle.text.proofs.HoldLaws.{holds_node}
-use borrow.Author.Rules.{rules}
 use Rattle.text.proofs.table.put_node.Goals as goal
 
 pub node_word-requires : goal.node_word-requires

@@ -1,6 +1,5 @@
 -- `text::table::put_not` meets its contract, by `HoldLaws`. Assumes nothing.
 use native.Mathlib.Omega.{arith}
-use borrow.Author.Rules.{rules}
 use Rattle.spec.specs.Rule.{false_node}
 use Rattle.text.proofs.HoldLaws.{holds_not, count_put}
 use Rattle.text.proofs.table.put_not.Goals as goal

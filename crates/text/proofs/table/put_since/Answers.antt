@@ -1,7 +1,6 @@
 -- `text::table::put_since` meets its contract: by `HoldLaws`. Assumes nothing.
 use native.Mathlib.Omega.{arith}
 use Rattle.text.proofs.HoldLaws.{holds_since}
-use borrow.Author.Rules.{rules}
 use Rattle.text.proofs.table.put_since.Goals as goal
 
 pub put_node-requires : goal.put_node-requires

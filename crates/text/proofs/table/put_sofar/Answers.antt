@@ -1,7 +1,6 @@
 -- `text::table::put_sofar` meets its contract, by `HoldLaws`. Assumes nothing.
 use native.Mathlib.Omega.{arith}
 use Rattle.rule.specs.Nodes.{form_in}
-use borrow.Author.Rules.{rules}
 use Rattle.text.specs.Building.{put_since, put_not}
 use Rattle.text.proofs.HoldLaws.{holds_after, count_since, count_not}
 use Rattle.text.proofs.table.put_sofar.Goals as goal

@@ -7,7 +7,6 @@ use Rattle.rule.specs.Nodes.{form_in}
 use Rattle.grammar.specs.Typed.{test_of}
 use Rattle.text.specs.Stacks.{comparison_of, Holds}
 use Rattle.text.specs.Building.{put}
-use borrow.Author.Rules.{rules}
 use Rattle.text.proofs.table.put_test.Goals as goal
 
 pub put_node-requires : goal.put_node-requires

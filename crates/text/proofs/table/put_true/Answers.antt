@@ -1,7 +1,6 @@
 -- `text::table::put_true` meets its contract, by `HoldLaws`. Assumes nothing.
 use native.Mathlib.Omega.{arith}
 use Rattle.rule.specs.Nodes.{form_in}
-use borrow.Author.Rules.{rules}
 use Rattle.spec.specs.Rule.{false_node}
 use Rattle.text.specs.Building.{put_not, put_true}
 use Rattle.text.proofs.HoldLaws.{holds_after, count_put}

@@ -1,12 +1,8 @@
 -- `text::token::digits_at` meets its contract: the digits passed make the value (`DigitLaws.Passed`). What is left of the text falls.
 -- Assumes nothing.
-use mathlib.Core.Path.{sym, subst, ◌∙◌}
-use Prim.Native.Nat.{◌-◌, ◌+◌}
-use native.Mathlib.Omega.{arith}
-use lib.ListN.{length, get_or}
-use borrow.Author.Rules.{rules}
-use borrow.Author.Tests.{not-true, not-false}
-use Rattle.text.proofs.DigitLaws.{digit_low, digit_high, cap_small, Passed, passed_start, passed_next, passed_stop, passed_end}
+use Prim.Native.Nat.{◌-◌}
+use lib.ListN.{length}
+use Rattle.text.proofs.DigitLaws.{Passed}
 use Rattle.text.proofs.token.digits_at.Given as goal
 
 abbrev pub invariant-loop-i : goal.invariant-loop-i

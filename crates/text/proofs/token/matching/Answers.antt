@@ -1,10 +1,7 @@
 -- `text::token::matching` meets its contract: the letters passed stand in the text (`LetterLaws.Agreed`). What is left of the letters
 -- falls. Assumes nothing.
-use Prim.Native.Nat.{◌-◌, ◌+◌}
 use native.Mathlib.Omega.{arith}
-use lib.ListN.{length}
-use borrow.Author.Rules.{rules}
-use Rattle.text.proofs.LetterLaws.{Agreed, agreed_beyond, agreed_start, agreed_next, agreed_other, agreed_short, agreed_end}
+use Rattle.text.proofs.LetterLaws.{agreed_beyond, agreed_start, agreed_next, agreed_other, agreed_short, agreed_end}
 use Rattle.text.proofs.token.matching.Goals as goal
 
 pub returns-then-text-at : goal.returns-then-text-at

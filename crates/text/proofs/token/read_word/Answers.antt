@@ -1,7 +1,6 @@
 -- `text::token::read_word` meets its contract, by `WordLaws`. Assumes nothing.
 use native.Mathlib.Omega.{arith}
 use lib.ListN.{drop, length-drop}
-use borrow.Author.Rules.{rules}
 use Rattle.grammar.proofs.StopLaws.{agreeing_within}
 use Rattle.text.proofs.WordLaws.{word_touches, word_breaks, word_stands}
 use Rattle.text.proofs.token.read_word.Goals as goal

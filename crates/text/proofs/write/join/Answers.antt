@@ -1,5 +1,4 @@
 -- `text::write::join` meets its contract. Assumes nothing.
-use borrow.Author.Rules.{rules}
 use Rattle.grammar.specs.Reading.{rank}
 use Rattle.text.proofs.WaitLaws.{join_room, join_builds}
 use Rattle.text.proofs.write.join.Goals as goal

@@ -1,6 +1,5 @@
 -- `text::write::nodes_for` meets its contract. Assumes nothing.
 use mathlib.Core.Path.{sym, ap, ◌∙◌}
-use borrow.Author.Rules.{rules}
 use Rattle.text.specs.Building.{cost}
 use Rattle.text.specs.Tokens.{tokens_in}
 use Rattle.text.specs.declared.token.Token.TheVariants as token

@@ -1,7 +1,6 @@
 -- `text::write::operator_level` meets its contract. Assumes nothing.
 use mathlib.Core.Path.{sym, ap}
 use Prim.Native.Nat.{suc}
-use borrow.Author.Rules.{rules}
 use Rattle.grammar.specs.Grammar.{strength}
 use Rattle.text.specs.Tokens.{operator_of}
 use Rattle.text.proofs.write.operator_level.Goals as goal

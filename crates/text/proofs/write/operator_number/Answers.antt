@@ -1,6 +1,5 @@
 -- `text::write::operator_number` meets its contract. Assumes nothing.
 use mathlib.Core.Path.{sym, ap}
-use borrow.Author.Rules.{rules}
 use Rattle.grammar.specs.Reading.{with_left}
 use Rattle.text.specs.Tokens.{operator_of}
 use Rattle.text.proofs.write.operator_number.Goals as goal

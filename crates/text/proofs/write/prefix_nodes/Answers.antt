@@ -1,6 +1,5 @@
 -- `text::write::prefix_nodes` meets its contract. Assumes nothing.
 use mathlib.Core.Path.{sym, ap}
-use borrow.Author.Rules.{rules}
 use Rattle.grammar.specs.Grammar.{prefix_word, word}
 use Rattle.text.specs.Building.{token_cost}
 use Rattle.text.specs.Tokens.{prefix_of}

@@ -1,6 +1,5 @@
 -- `text::write::prefix_number` meets its contract. Assumes nothing.
 use mathlib.Core.Path.{sym, ap}
-use borrow.Author.Rules.{rules}
 use Rattle.grammar.specs.Reading.{awaiting}
 use Rattle.text.specs.Tokens.{prefix_of}
 use Rattle.text.proofs.write.prefix_number.Goals as goal

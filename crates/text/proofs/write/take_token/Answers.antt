@@ -1,6 +1,5 @@
 -- `text::write::take_token` meets its contract, token by token. Assumes nothing.
 use Rattle.text.proofs.ProgressLaws.{ready_as, took, with_progress, taken_space, taken_open, taken_close, taken_register, taken_equal, taken_below, constant_room, taken_constant, number_room, taken_number, prefix_room, taken_prefix, operator_room, taken_operator}
-use borrow.Author.Rules.{rules}
 use Rattle.text.proofs.write.take_token.Goals as goal
 
 pub put_constant-requires : goal.put_constant-requires

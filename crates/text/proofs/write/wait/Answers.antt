@@ -1,5 +1,4 @@
 -- `text::write::wait` meets its contract. Assumes nothing.
-use borrow.Author.Rules.{rules}
 use Rattle.text.proofs.WaitLaws.{room_waits, waits_builds}
 use Rattle.text.proofs.write.wait.Goals as goal
 

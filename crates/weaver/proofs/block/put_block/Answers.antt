@@ -12,7 +12,6 @@ use Rattle.weaver.proofs.BlockLaws.{block_updatable, block_few, block_room, bloc
 use Rattle.weaver.proofs.NotedLaws.{done_noted, work_set, all_below_lem}
 use Rattle.weaver.specs.Parts.{guard_lines}
 use native.Mathlib.Omega.{arith}
-use borrow.Author.Rules.{rules}
 use Rattle.weaver.proofs.block.put_block.Goals as goal
 
 pub put_updates-n-requires : goal.put_updates-n-requires

@@ -10,7 +10,6 @@ use Rattle.facts.proofs.OverLaws.{written_then, written_as}
 use Rattle.weaver.proofs.BlockLaws.{guard_few, guard_size, guard_last, guard_length, guard_code}
 use Rattle.weaver.specs.Parts.{present_lines}
 use native.Mathlib.Omega.{arith}
-use borrow.Author.Rules.{rules}
 use Rattle.weaver.proofs.block.put_guard.Goals as goal
 
 pub overflow_sub-last : goal.overflow_sub-last

@@ -9,7 +9,6 @@ use Rattle.facts.specs.FactSets.{facts_of}
 use Rattle.facts.specs.Written.{Space}
 use Rattle.facts.proofs.OverLaws.{one_line, written_as, written_none}
 use native.Mathlib.Omega.{arith}
-use borrow.Author.Rules.{rules}
 use Rattle.weaver.proofs.block.put_keep.Goals as goal
 
 pub encode-requires : goal.encode-requires

@@ -3,7 +3,7 @@
 use mathlib.Core.List.{[], ◌∷◌}
 use mathlib.Core.Bool.{cond}
 use mathlib.Core.Path.{◌≡◌, refl, sym, ap, ap₂, ◌∙◌}
-use Prim.Native.Nat.{ℕ, ◌+◌, ◌-◌, ◌≤◌, ◌<◌}
+use Prim.Native.Nat.{ℕ, ◌+◌, ◌<◌}
 use lib.ListN.{length}
 use Rattle.rule.proofs.PutLaws.{put_lengths}
 use Rattle.spec.specs.Weaver.{line, keep_facts}
@@ -11,16 +11,15 @@ use Rattle.spec.specs.Script.{keep}
 use Rattle.spec.specs.Rule.{is_past, node_at}
 use Rattle.sets.specs.Sets.{capacity}
 use Rattle.rule.proofs.EitherLaws.{size_most}
-use Rattle.facts.proofs.GroupLaws.{Gathered, gather_start, gather_next}
+use Rattle.facts.proofs.GroupLaws.{gather_start, gather_next}
 use Rattle.rule.specs.Nodes.{table_in, stored_in}
 use Rattle.facts.specs.FactSets.{facts_of}
 use Rattle.facts.proofs.OverLaws.{written_as}
 use Rattle.weaver.proofs.BlockLaws.{keeping_series, keep_length, all_keeps, keeping_room, keeping_few}
-use Rattle.weaver.proofs.SeriesLaws.{Filled, filled_start, filled_part, filled_next, filled_end}
+use Rattle.weaver.proofs.SeriesLaws.{filled_start, filled_part, filled_next, filled_end}
 use Rattle.weaver.proofs.NotedLaws.{keep_noted}
 use Rattle.weaver.specs.Parts.{past_nodes}
 use native.Mathlib.Omega.{arith}
-use borrow.Author.Rules.{rules}
 use Rattle.weaver.proofs.block.put_keeps.Goals as goal
 
 pub loop-k-init : goal.loop-k-init

@@ -14,7 +14,6 @@ use Rattle.facts.proofs.OverLaws.{one_line, written_then, written_as}
 use Rattle.weaver.proofs.BlockLaws.{present_code}
 use Rattle.weaver.proofs.GrowthLaws.{add_first}
 use native.Mathlib.Omega.{arith}
-use borrow.Author.Rules.{rules}
 use Rattle.weaver.proofs.block.put_present.Goals as goal
 
 pub overflow_sub-rule : goal.overflow_sub-rule

@@ -1,9 +1,9 @@
 -- `weaver::decision::put_decision` meets its contract: a mention of a shared node by its work bit, any other node by what it is. The loop goes
 -- on to the right operand of an implies, and keeps: what is still to be written completes the code (`DecisionLaws.Completes`). Recursion into
 -- the left operand, the node's number the measure. Assumes nothing.
-use mathlib.Core.List.{List, ◌++◌}
+use mathlib.Core.List.{◌++◌}
 use mathlib.Core.Path.{◌≡◌, sym, ap, ap₂, ◌∙◌}
-use Prim.Native.Nat.{◌+◌, ◌-◌, ◌≤◌, ◌<◌, ℕ}
+use Prim.Native.Nat.{◌+◌, ◌-◌}
 use native.Mathlib.Omega.{arith}
 use lib.ListN.{length, get_or}
 use Rattle.spec.proofs.WeaverLaws.{length_decide}
@@ -14,11 +14,9 @@ use Rattle.spec.specs.Script.{word_for, fields_for}
 use Rattle.spec.specs.Weaver.{decide}
 use Rattle.rule.specs.Nodes.{node_read, table_in, stored_in}
 use Rattle.facts.specs.FactSets.{facts_of}
-use Rattle.weaver.specs.Laid.{Deciding}
-use Rattle.weaver.proofs.DecisionLaws.{falls_to, asked_as, Completes, Implied, implied, work_room, work_code_lem, simple_room, simple_code, few}
+use Rattle.weaver.proofs.DecisionLaws.{falls_to, asked_as, implied, work_room, work_code_lem, simple_room, simple_code, few}
 use Rattle.weaver.proofs.GrowthLaws.{add_first}
 use Rattle.facts.proofs.OverLaws.{written_then, written_as}
-use borrow.Author.Rules.{rules}
 use Rattle.weaver.proofs.decision.+put_decision.Goals as goal
 
 pub loop-by_kind-init : goal.loop-by_kind-init

@@ -1,24 +1,11 @@
 -- `weaver::decision::put_decision` meets its contract: a mention of a shared node by its work bit, any other node by what it is. The loop goes
 -- on to the right operand of an implies, and keeps: what is still to be written completes the code (`DecisionLaws.Completes`). Recursion into
 -- the left operand, the node's number the measure. Assumes nothing.
-use mathlib.Core.List.{List, ◌++◌}
-use mathlib.Core.Path.{◌≡◌, sym, ap, ap₂, ◌∙◌}
-use Prim.Native.Nat.{◌+◌, ◌-◌, ◌≤◌, ◌<◌, ℕ}
-use native.Mathlib.Omega.{arith}
-use lib.ListN.{length, get_or}
-use Rattle.spec.proofs.WeaverLaws.{length_decide}
-use Rattle.rule.proofs.NodeLaws.{node_at_lem}
-use Rattle.rule.proofs.TagLaws.{rest_not_implies}
-use Rattle.rule.proofs.PutLaws.{put_lengths}
-use Rattle.spec.specs.Script.{word_for, fields_for}
-use Rattle.spec.specs.Weaver.{decide}
-use Rattle.rule.specs.Nodes.{node_read, table_in, stored_in}
+use Prim.Native.Nat.{◌≤◌}
+use Rattle.rule.specs.Nodes.{table_in, stored_in}
 use Rattle.facts.specs.FactSets.{facts_of}
 use Rattle.weaver.specs.Laid.{Deciding}
-use Rattle.weaver.proofs.DecisionLaws.{falls_to, asked_as, Completes, Implied, implied, work_room, work_code_lem, simple_room, simple_code, few}
-use Rattle.weaver.proofs.GrowthLaws.{add_first}
-use Rattle.facts.proofs.OverLaws.{written_then, written_as}
-use borrow.Author.Rules.{rules}
+use Rattle.weaver.proofs.DecisionLaws.{Completes}
 use Rattle.weaver.proofs.decision.+put_decision.Given as goal
 
 abbrev pub decreases-put_decision : goal.decreases-put_decision

@@ -8,7 +8,6 @@ use Rattle.facts.specs.Written.{stored_line}
 use Rattle.rule.proofs.PutLaws.{put_as}
 use Rattle.weaver.proofs.GrowthLaws.{add_second}
 use native.Mathlib.Omega.{arith}
-use borrow.Author.Rules.{rules}
 use Rattle.weaver.proofs.decision.put_leaf.Goals as goal
 
 pub encode-requires : goal.encode-requires

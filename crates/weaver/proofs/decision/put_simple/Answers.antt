@@ -7,7 +7,6 @@ use Rattle.spec.proofs.BoolLaws.{clash}
 use Rattle.rule.specs.Nodes.{node_read, NodeSmall, is_implies, stored_in}
 use Rattle.weaver.proofs.SimpleLaws.{room_of, by_leaf, by_goto}
 use native.Mathlib.Omega.{arith}
-use borrow.Author.Rules.{rules}
 use Rattle.weaver.proofs.decision.put_simple.Goals as goal
 
 pub encode-requires : goal.encode-requires

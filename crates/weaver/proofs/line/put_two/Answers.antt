@@ -6,7 +6,6 @@ use Rattle.facts.proofs.OverLaws.{length_stored}
 use Rattle.rule.proofs.EitherLaws.{size_most}
 use Rattle.rule.proofs.PutLaws.{put_then}
 use native.Mathlib.Omega.{arith}
-use borrow.Author.Rules.{rules}
 use Rattle.weaver.proofs.line.put_two.Goals as goal
 
 pub put_line-requires : goal.put_line-requires

@@ -5,7 +5,6 @@ use Rattle.spec.proofs.FactLaws.{facts_ext}
 use Rattle.spec.specs.Facts.{value_is, prior_is, kept_is_prior, work_is_next, work_is_prior, word_number}
 use Rattle.facts.specs.FactSets.{facts_of}
 use Rattle.weaver.proofs.GrowthLaws.{one_other, one_own}
-use borrow.Author.Rules.{rules}
 use Rattle.weaver.proofs.line.with_work.Goals as goal
 
 pub returns : goal.returns

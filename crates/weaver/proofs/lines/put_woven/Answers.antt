@@ -7,7 +7,6 @@ use Rattle.rule.specs.Nodes.{table_in, stored_in}
 use Rattle.facts.proofs.OverLaws.{one_line, written_as}
 use Rattle.weaver.proofs.LinesLaws.{present_line_lem, other_line, woven_block, woven_line}
 use Rattle.weaver.proofs.NotedLaws.{bare_noted}
-use borrow.Author.Rules.{rules}
 use Rattle.weaver.proofs.lines.put_woven.Goals as goal
 
 pub put_block-requires : goal.put_block-requires

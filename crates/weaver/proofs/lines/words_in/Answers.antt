@@ -2,7 +2,6 @@
 use mathlib.Core.Bool.{cond}
 use mathlib.Core.Path.{sym, ap}
 use Prim.Native.Nat.{ℕ, ◌*◌}
-use borrow.Author.Rules.{rules}
 use Rattle.weaver.proofs.lines.words_in.Goals as goal
 
 pub returns-then-is_in : goal.returns-then-is_in

@@ -13,7 +13,6 @@ use Rattle.weaver.proofs.UpdateLaws.{deciding_in, deciding_some}
 use Rattle.weaver.proofs.GrowthLaws.{add_first, add_second}
 use Rattle.weaver.specs.Parts.{left_lines}
 use native.Mathlib.Omega.{arith}
-use borrow.Author.Rules.{rules}
 use Rattle.weaver.proofs.update.put_left.Goals as goal
 
 pub learn_prior-y-requires : goal.learn_prior-y-requires

@@ -10,7 +10,6 @@ use Rattle.facts.specs.FactSets.{facts_of}
 use Rattle.facts.proofs.OverLaws.{one_line, two_lines, written_then}
 use Rattle.weaver.proofs.GrowthLaws.{add_first, add_second}
 use native.Mathlib.Omega.{arith}
-use borrow.Author.Rules.{rules}
 use Rattle.weaver.proofs.update.put_setting.Goals as goal
 
 pub overflow_sub-at : goal.overflow_sub-at

@@ -12,7 +12,6 @@ use Rattle.facts.proofs.OverLaws.{written_then, written_as}
 use Rattle.weaver.proofs.UpdateLaws.{since_space, since_size, right_size, since_right, since_end_lem, since_code}
 use Rattle.weaver.specs.Parts.{since_end}
 use native.Mathlib.Omega.{arith}
-use borrow.Author.Rules.{rules}
 use Rattle.weaver.proofs.update.put_since.Goals as goal
 
 pub offset_bounds-sizes-right : goal.offset_bounds-sizes-right

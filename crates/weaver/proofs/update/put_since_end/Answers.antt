@@ -14,7 +14,6 @@ use Rattle.weaver.proofs.UpdateLaws.{end_few, end_size, end_left, length_left}
 use Rattle.weaver.proofs.GrowthLaws.{add_second}
 use Rattle.weaver.specs.Parts.{left_lines, since_end}
 use native.Mathlib.Omega.{arith}
-use borrow.Author.Rules.{rules}
 use Rattle.weaver.proofs.update.put_since_end.Goals as goal
 
 pub overflow_add-set_at : goal.overflow_add-set_at

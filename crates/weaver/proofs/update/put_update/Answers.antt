@@ -9,7 +9,6 @@ use Rattle.facts.specs.FactSets.{facts_of}
 use Rattle.facts.specs.Written.{Written}
 use Rattle.facts.proofs.OverLaws.{written_as, written_none}
 use Rattle.weaver.proofs.UpdateLaws.{no_code}
-use borrow.Author.Rules.{rules}
 use Rattle.weaver.proofs.update.put_update.Goals as goal
 
 pub bounds-rule-k : goal.bounds-rule-k

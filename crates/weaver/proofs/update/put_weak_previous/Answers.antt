@@ -11,7 +11,6 @@ use Rattle.facts.specs.FactSets.{facts_of}
 use Rattle.facts.proofs.OverLaws.{written_then, written_as}
 use Rattle.weaver.proofs.UpdateLaws.{weak_space, weak_left_size, weak_size, weak_left, weak_code}
 use native.Mathlib.Omega.{arith}
-use borrow.Author.Rules.{rules}
 use Rattle.weaver.proofs.update.put_weak_previous.Goals as goal
 
 pub offset_bounds-sizes-left : goal.offset_bounds-sizes-left

@@ -5,7 +5,6 @@ use Rattle.rule.specs.Nodes.{stored_in}
 use Rattle.facts.specs.FactSets.{facts_of}
 use Rattle.facts.proofs.OverLaws.{written_as}
 use Rattle.weaver.proofs.UpdateLaws.{past_size, past_code, past_updating}
-use borrow.Author.Rules.{rules}
 use Rattle.weaver.proofs.update.put_work.Goals as goal
 
 pub put_shared-requires : goal.put_shared-requires

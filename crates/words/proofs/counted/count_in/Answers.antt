@@ -1,5 +1,4 @@
 -- `words::counted::count_in` meets its contract: the count by cases (`CountedLaws`). Assumes nothing.
-use borrow.Author.Rules.{rules}
 use Rattle.words.proofs.CountedLaws.{count_over, count_missing, count_there}
 use Rattle.words.proofs.counted.count_in.Goals as goal
 

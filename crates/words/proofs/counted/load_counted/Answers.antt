@@ -4,7 +4,6 @@ use mathlib.Core.Path.{ap}
 use Prim.Native.Nat.{ℕ, ◌+◌}
 use native.Mathlib.Omega.{arith}
 use lib.ListN.{length}
-use borrow.Author.Rules.{rules}
 use Rattle.words.specs.Counted.{words_from, count_in}
 use Rattle.print.proofs.AddedLaws.{added_as}
 use Rattle.words.proofs.CountedLaws.{count_most}

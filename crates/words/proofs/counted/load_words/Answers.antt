@@ -1,9 +1,8 @@
 -- `words::counted::load_words` meets its contract. The loop keeps: the first i words are written (`CountedLaws`); the measure is how many are
 -- left. Assumes nothing.
 use mathlib.Core.Path.{◌≡◌, subst}
-use Prim.Native.Nat.{ℕ, ◌-◌, ◌≤◌}
+use Prim.Native.Nat.{ℕ}
 use native.Mathlib.Omega.{arith}
-use lib.ListN.{length}
 use borrow.Author.Rules.{rules}
 use Rattle.words.specs.Counted.{words_from}
 use Rattle.print.specs.Written.{Added}

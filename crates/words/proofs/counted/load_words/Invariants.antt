@@ -1,13 +1,10 @@
 -- `words::counted::load_words` meets its contract. The loop keeps: the first i words are written (`CountedLaws`); the measure is how many are
 -- left. Assumes nothing.
-use mathlib.Core.Path.{◌≡◌, subst}
-use Prim.Native.Nat.{ℕ, ◌-◌, ◌≤◌}
-use native.Mathlib.Omega.{arith}
+use mathlib.Core.Path.{◌≡◌}
+use Prim.Native.Nat.{◌-◌, ◌≤◌}
 use lib.ListN.{length}
-use borrow.Author.Rules.{rules}
 use Rattle.words.specs.Counted.{words_from}
 use Rattle.print.specs.Written.{Added}
-use Rattle.words.proofs.CountedLaws.{words_start, words_next}
 use Rattle.words.proofs.counted.load_words.Given as goal
 
 abbrev pub invariant-loop-i : goal.invariant-loop-i
