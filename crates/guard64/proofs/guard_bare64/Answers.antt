@@ -4,7 +4,6 @@ use Rattle.spec.specs.Script.{check_bare}
 use Rattle.rule.specs.Answers.{answer_of}
 use Rattle.numbers.specs.Numbers.{checked_words}
 use Rattle.numbers.proofs.NoteLaws.{noted, unlent}
-use borrow.Author.Rules.{rules}
 use Rattle.guard64.proofs.guard_bare64.Goals as goal
 
 pub returns-then-numbers-lt1 : goal.returns-then-numbers-lt1

@@ -1,12 +1,11 @@
 -- `guard64::guard_fresh64` meets its contract. Assumes nothing.
 use mathlib.Core.Path.{ap, ◌∙◌}
-use mathlib.Core.List.{[], ◌++◌}
+use mathlib.Core.List.{◌++◌}
 use lib.ListN.{drop}
 use Rattle.spec.specs.Rule.{form64}
 use Rattle.spec.specs.Ready.{MachineState, fresh_state_of}
 use Rattle.numbers.specs.States.{state_words}
 use Rattle.numbers.proofs.NoteLaws.{room, no_room, words_room, words_no_room}
-use borrow.Author.Rules.{rules}
 use Rattle.guard64.proofs.guard_fresh64.Goals as goal
 
 pub returns-then-state-lt25 : goal.returns-then-state-lt25

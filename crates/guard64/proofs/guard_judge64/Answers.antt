@@ -4,7 +4,6 @@ use Rattle.spec.specs.Judging.{judging}
 use Rattle.rule.specs.Answers.{verdict_of}
 use Rattle.numbers.specs.Numbers.{verdict_words}
 use Rattle.numbers.proofs.NoteLaws.{noted, unlent}
-use borrow.Author.Rules.{rules}
 use Rattle.guard64.proofs.guard_judge64.Goals as goal
 
 pub returns-then-numbers-lt4 : goal.returns-then-numbers-lt4

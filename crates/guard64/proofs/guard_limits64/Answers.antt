@@ -2,7 +2,6 @@
 use Rattle.intervals.specs.Limits.{limiting, limits_output}
 use Rattle.spec.specs.Rule.{form64}
 use Rattle.numbers.proofs.NoteLaws.{count_noted, count_unlent}
-use borrow.Author.Rules.{rules}
 use Rattle.guard64.proofs.guard_limits64.Goals as goal
 
 pub returns-then-numbers-lt2 : goal.returns-then-numbers-lt2

@@ -1,14 +1,12 @@
 -- `guard64::guard_run64` meets its contract. Assumes nothing.
 use mathlib.Core.Path.{ap, ◌∙◌}
-use mathlib.Core.List.{List, ◌++◌}
-use Prim.Native.Nat.{ℕ}
+use mathlib.Core.List.{◌++◌}
 use lib.ListN.{drop}
 use Rattle.spec.specs.Questions.{Answer}
 use Rattle.spec.specs.Rule.{form64}
 use Rattle.spec.specs.Machine.{Ended, running, Report, report_of, history_after}
 use Rattle.numbers.specs.Numbers.{number_of, report_words}
 use Rattle.numbers.proofs.NoteLaws.{noted, unlent, room, no_room, report_number}
-use borrow.Author.Rules.{rules}
 use Rattle.guard64.proofs.guard_run64.Goals as goal
 
 pub returns-then-numbers-lt22 : goal.returns-then-numbers-lt22

@@ -1,10 +1,8 @@
 -- `guard64::guard_step64` meets its contract (`StateLaws`). Assumes nothing.
 use mathlib.Core.Path.{sym, ap, ◌∙◌}
-use borrow.Author.Tests.{not-true, not-false}
 use Rattle.spec.specs.Rule.{form64}
 use Rattle.spec.specs.Ready.{state_step_of}
 use Rattle.numbers.proofs.StateLaws.{step_short, step_large, step_made}
-use borrow.Author.Rules.{rules}
 use Rattle.guard64.proofs.guard_step64.Goals as goal
 
 pub returns-then-state-lt25 : goal.returns-then-state-lt25

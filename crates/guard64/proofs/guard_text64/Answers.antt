@@ -3,7 +3,6 @@ use lib.ListN.{length}
 use Rattle.grammar.specs.Texting.{texting, count_of, output_of}
 use Rattle.spec.specs.Rule.{form64}
 use Rattle.numbers.proofs.NoteLaws.{count_noted, count_unlent}
-use borrow.Author.Rules.{rules}
 use Rattle.guard64.proofs.guard_text64.Goals as goal
 
 pub returns-then-numbers-lt2 : goal.returns-then-numbers-lt2

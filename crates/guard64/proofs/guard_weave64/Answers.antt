@@ -2,7 +2,6 @@
 use Rattle.spec.specs.Weaver.{weaving, output_after}
 use Rattle.spec.specs.Rule.{form64}
 use Rattle.numbers.proofs.NoteLaws.{count_noted, count_unlent}
-use borrow.Author.Rules.{rules}
 use Rattle.guard64.proofs.guard_weave64.Goals as goal
 
 pub returns-then-numbers-lt2 : goal.returns-then-numbers-lt2

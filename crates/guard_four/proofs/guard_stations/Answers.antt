@@ -1,7 +1,6 @@
 -- `guard_four::guard_stations` meets its contract (`FourLaws` of crate numbers). Assumes nothing.
 use Rattle.spec.specs.Rule.{form32}
 use Rattle.numbers.proofs.FourLaws.{run_four, stations_unlent, stations_noted}
-use borrow.Author.Rules.{rules}
 use Rattle.guard_four.proofs.guard_stations.Goals as goal
 
 pub returns-then-numbers-lt3 : goal.returns-then-numbers-lt3

@@ -1,7 +1,6 @@
 -- `guard_four64::guard_stations64` meets its contract (`FourLaws` of crate numbers). Assumes nothing.
 use Rattle.spec.specs.Rule.{form64}
 use Rattle.numbers.proofs.FourLaws.{run_four, stations_unlent, stations_noted}
-use borrow.Author.Rules.{rules}
 use Rattle.guard_four64.proofs.guard_stations64.Goals as goal
 
 pub returns-then-numbers-lt3 : goal.returns-then-numbers-lt3

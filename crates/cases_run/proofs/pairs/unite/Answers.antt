@@ -1,8 +1,6 @@
 -- `cases_run::pairs::unite` meets its contract: the loop keeps that the first i words are the union's (`PairLaws`). Assumes nothing.
-use Prim.Native.Nat.{◌-◌}
-use Rattle.cases_run.proofs.PairLaws.{Uniting, uniting_size, uniting_start, uniting_next, uniting_end}
+use Rattle.cases_run.proofs.PairLaws.{uniting_size, uniting_start, uniting_next, uniting_end}
 use native.Mathlib.Omega.{arith}
-use borrow.Author.Rules.{rules}
 use Rattle.cases_run.proofs.pairs.unite.Goals as goal
 
 pub loop-i-init : goal.loop-i-init

@@ -1,7 +1,5 @@
 -- `cases_run::pairs::unite` meets its contract: the loop keeps that the first i words are the union's (`PairLaws`). Assumes nothing.
-use Rattle.cases_run.proofs.PairLaws.{Uniting, uniting_size, uniting_start, uniting_next, uniting_end}
-use native.Mathlib.Omega.{arith}
-use borrow.Author.Rules.{rules}
+use Rattle.cases_run.proofs.PairLaws.{Uniting}
 use Rattle.cases_run.proofs.pairs.unite.Given as goal
 
 abbrev pub invariant-loop-i : goal.invariant-loop-i

@@ -1,7 +1,6 @@
 -- `guard64::moving::guard_script_back` meets its contract: what the move answers, as numbers (`NoteLaws`). Assumes nothing.
 use Rattle.moves.specs.Moves.{script_back, script_back_output}
 use Rattle.numbers.proofs.NoteLaws.{count_noted, count_unlent}
-use borrow.Author.Rules.{rules}
 use Rattle.guard64.proofs.moving.guard_script_back.Goals as goal
 
 pub returns-then-numbers-lt2 : goal.returns-then-numbers-lt2
