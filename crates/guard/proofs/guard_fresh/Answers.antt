@@ -1,6 +1,6 @@
 -- `guard::guard_fresh` meets its contract. Assumes nothing.
 use mathlib.Core.Path.{ap, ◌∙◌}
-use mathlib.Core.List.{◌++◌}
+use mathlib.Core.List.{[], ◌++◌}
 use lib.ListN.{drop}
 use Rattle.spec.specs.Rule.{form32}
 use Rattle.spec.specs.Ready.{MachineState, fresh_state_of}

@@ -1,6 +1,6 @@
 -- `guard64::guard_fresh64` meets its contract. Assumes nothing.
 use mathlib.Core.Path.{ap, ◌∙◌}
-use mathlib.Core.List.{◌++◌}
+use mathlib.Core.List.{[], ◌++◌}
 use lib.ListN.{drop}
 use Rattle.spec.specs.Rule.{form64}
 use Rattle.spec.specs.Ready.{MachineState, fresh_state_of}
