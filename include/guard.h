@@ -1,8 +1,8 @@
 /*
  * The presentation guard, for C and C++.
  *
- * Link libguard.a (`rt lib` in crates/guard writes it to crates/guard/out; Linux on x86-64-v2), and for the functions over the second form
- * and the moves libguard64.a (crates/guard64); guard_stations is in libguard_four.a, guard_stations64 in libguard_four64.a. A program may
+ * Link libguard.a (`tools/libraries` writes it to out/; Linux on x86-64-v2), and for the functions over the second form and
+ * the moves libguard64.a; guard_stations is in libguard_four.a, guard_stations64 in libguard_four64.a. A program may
  * link all of them. They need no other library, keep nothing between calls, allocate nothing, and may be called from several threads at once.
  *
  * Every function here is proved: for each input it ends, reads and writes only what is lent to it, and answers what

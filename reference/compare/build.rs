@@ -1,18 +1,16 @@
-//! Links the proved code, `libguard.a`, `libguard64.a`, `libguard_four.a` and `libguard_four64.a`. GUARD_LIB names their folder; without it each is
-//! where `rt lib` writes it, in the folder `out` of its crate.
+//! Links the proved code, `libguard.a`, `libguard64.a`, `libguard_four.a` and `libguard_four64.a`. GUARD_LIB names their folder; without it that is
+//! the repository's out/, where tools/libraries puts them.
 use std::env;
 use std::fs;
 use std::path::PathBuf;
 
 fn main() {
     println!("cargo:rerun-if-env-changed=GUARD_LIB");
-    let lent = env::var("GUARD_LIB").map(PathBuf::from).ok();
-    let crates = PathBuf::from(env::var("CARGO_MANIFEST_DIR").unwrap()).join("../../crates");
-    let library = |name: &str| {
-        let folder = lent.clone().unwrap_or_else(|| crates.join(name).join("out"));
-        println!("cargo:rustc-link-search=native={}", folder.display());
-        folder.join(format!("lib{name}.a"))
-    };
+    let folder = env::var("GUARD_LIB")
+        .map(PathBuf::from)
+        .unwrap_or_else(|_| PathBuf::from(env::var("CARGO_MANIFEST_DIR").unwrap()).join("../../out"));
+    println!("cargo:rustc-link-search=native={}", folder.display());
+    let library = |name: &str| folder.join(format!("lib{name}.a"));
     let first = library("guard");
     println!("cargo:rerun-if-changed={}", first.display());
     println!("cargo:rustc-link-lib=static=guard");

@@ -124,6 +124,7 @@ fn answer(rt: &impl Print, kind: u32, number: usize, bytes: &[u8]) -> io::Result
 }
 
 // The request of this kind that starts at word `at`, and where the next one starts.
+// The one error is that of a write that failed; nothing of the caller's changes then.
 pub(crate) fn request_text(rt: &impl Print, s: &[u8], kind: u32, at: usize) -> io::Result<usize>
     requires { at < 16384 }
     ensures { IfOk result (λ next. at < next) }

@@ -8,7 +8,7 @@ use lib.Dec.{eqb}
 use Rattle.spec.specs.Logic.{Test}
 use Rattle.spec.specs.Rule.{Node, test_node, Table, node_at}
 use Rattle.spec.specs.Facts.{Fact, value_is, prior_is, kept_is_prior, work_is_next, work_is_prior, word_number, Facts, gains, close_node}
-use Rattle.spec.proofs.FactLaws.{by-fact}
+use Rattle.spec.proofs.FactLaws.{by_fact}
 use Rattle.facts.proofs.FactSetLaws.{learning, at_first, at_second, at_other}
 
 module _ (t : Table) (k : ℕ) (F : Facts) where
@@ -17,7 +17,7 @@ module _ (t : Table) (k : ℕ) (F : Facts) where
   close_test a e = fun_ext (λ f. fun_ext (λ j. rw e (go f j)))
     where
       go : (f : Fact) (j : ℕ) → F f j ≡ (F f j || eqb j k && gains F (test_node a) k f)
-      go = by-fact _ (none _) (none _) (none _) (none _) (none _) (none _) (none _)
+      go = by_fact _ (none _) (none _) (none _) (none _) (none _) (none _) (none _)
         where
           none : (f : Fact) (j : ℕ) → F f j ≡ (F f j || eqb j k && false)
           none f j = rw (and-false (eqb j k), or-false (F f j))
@@ -35,7 +35,7 @@ module _ (t : Table) (k : ℕ) (F : Facts) where
       none f d j = ap (λ s. s j) d ∙ rw (and-false (eqb j k), or-false (F f j))
 
       go : (f : Fact) (j : ℕ) → L f j ≡ (F f j || eqb j k && gains F x k f)
-      go = by-fact (λ f. (j : ℕ) → L f j ≡ (F f j || eqb j k && gains F x k f))
+      go = by_fact (λ f. (j : ℕ) → L f j ≡ (F f j || eqb j k && gains F x k f))
           (λ j. at_first F (value_is true) (value_is false) yes-t yes-f k refl j ∙ ap (λ c. F (value_is true) j || eqb j k && c) a)
           (λ j. at_second F (value_is true) (value_is false) yes-t yes-f k refl j ∙ ap (λ c. F (value_is false) j || eqb j k && c) b)
           (none (prior_is true) (at_other F (value_is true) (value_is false) yes-t yes-f k (prior_is true) refl refl))

@@ -30,8 +30,7 @@ use text::read_text;
 use weaver::weave;
 
 // A rule typed as text: questions 16, 17, 18 and 13. Two words: place, nodes. The nodes go to `out`, a word each.
-#[unsafe(no_mangle)]
-pub extern "C" fn guard_text(text: &[u8], out: &mut [u32], numbers: &mut [u64]) -> u32
+pub fn guard_text(text: &[u8], out: &mut [u32], numbers: &mut [u64]) -> u32
     ensures result { result ≡ result_for 2 numbers.old (count_of (texting form32 (length out.old) text.now)) }
     ensures words { numbers.new ≡ with_words 2 (count_words (count_of (texting form32 (length out.old) text.now))) numbers.old }
     ensures output { out.new ≡ cond (room_for 2 numbers.old) (output_of (texting form32 (length out.old) text.now) out.old) out.old }
@@ -43,8 +42,7 @@ pub extern "C" fn guard_text(text: &[u8], out: &mut [u32], numbers: &mut [u64]) 
 }
 
 // A rule: questions 1 to 4. One word: place.
-#[unsafe(no_mangle)]
-pub extern "C" fn guard_rule(rule: &[u32], numbers: &mut [u64]) -> u32
+pub fn guard_rule(rule: &[u32], numbers: &mut [u64]) -> u32
     ensures result { result ≡ result_for 1 numbers.old (check_rule form32 rule.now) }
     ensures words { numbers.new ≡ with_words 1 (checked_words (check_rule form32 rule.now)) numbers.old }
 {
@@ -55,8 +53,7 @@ pub extern "C" fn guard_rule(rule: &[u32], numbers: &mut [u64]) -> u32
 }
 
 // A bare script for a rule: questions 1 to 7. One word: place.
-#[unsafe(no_mangle)]
-pub extern "C" fn guard_bare(rule: &[u32], script: &[u32], numbers: &mut [u64]) -> u32
+pub fn guard_bare(rule: &[u32], script: &[u32], numbers: &mut [u64]) -> u32
     ensures result { result ≡ result_for 1 numbers.old (check_bare form32 rule.now script.now) }
     ensures words { numbers.new ≡ with_words 1 (checked_words (check_bare form32 rule.now script.now)) numbers.old }
 {
@@ -67,8 +64,7 @@ pub extern "C" fn guard_bare(rule: &[u32], script: &[u32], numbers: &mut [u64]) 
 }
 
 // An annotated script for a rule: questions 1 to 11. One word: place.
-#[unsafe(no_mangle)]
-pub extern "C" fn guard_script(rule: &[u32], script: &[u32], numbers: &mut [u64]) -> u32
+pub fn guard_script(rule: &[u32], script: &[u32], numbers: &mut [u64]) -> u32
     ensures result { result ≡ result_for 1 numbers.old (check_script form32 rule.now script.now) }
     ensures words { numbers.new ≡ with_words 1 (checked_words (check_script form32 rule.now script.now)) numbers.old }
 {
@@ -79,13 +75,7 @@ pub extern "C" fn guard_script(rule: &[u32], script: &[u32], numbers: &mut [u64]
 }
 
 // The woven script for a rule: questions 1 to 7, 12 and 13 first. Two words: place, lines. The lines go to `out`, eight words each.
-#[unsafe(no_mangle)]
-pub extern "C" fn guard_weave(
-    rule: &[u32],
-    bare: &[u32],
-    out: &mut [u32],
-    numbers: &mut [u64],
-) -> u32
+pub fn guard_weave(rule: &[u32], bare: &[u32], out: &mut [u32], numbers: &mut [u64]) -> u32
     ensures result { result ≡ result_for 2 numbers.old (weaving form32 rule.now bare.now out.old) }
     ensures words { numbers.new ≡ with_words 2 (count_words (weaving form32 rule.now bare.now out.old)) numbers.old }
     ensures output { out.new ≡ cond (room_for 2 numbers.old) (output_after form32 rule.now bare.now out.old) out.old }
@@ -98,13 +88,7 @@ pub extern "C" fn guard_weave(
 
 // The largest facts for instructions without: questions 1 to 7, 19 and 13 first. Two words: place, facts. The annotated lines go to
 // `out`, eight words each.
-#[unsafe(no_mangle)]
-pub extern "C" fn guard_facts(
-    rule: &[u32],
-    instructions: &[u32],
-    out: &mut [u32],
-    numbers: &mut [u64],
-) -> u32
+pub fn guard_facts(rule: &[u32], instructions: &[u32], out: &mut [u32], numbers: &mut [u64]) -> u32
     ensures result { result ≡ result_for 2 numbers.old (found_answer form32 rule.now instructions.now out.old) }
     ensures words { numbers.new ≡ with_words 2 (count_words (found_answer form32 rule.now instructions.now out.old)) numbers.old }
     ensures output { out.new ≡ cond (room_for 2 numbers.old) (found_output form32 rule.now instructions.now out.old) out.old }
@@ -117,8 +101,7 @@ pub extern "C" fn guard_facts(
 
 // The verdict on a history: questions 1 to 4, 14 and 15 first. Four words: place; 1 where the rule is false somewhere; the lowest
 // such index; the number of states where there is none.
-#[unsafe(no_mangle)]
-pub extern "C" fn guard_judge(rule: &[u32], history: &[u16], numbers: &mut [u64]) -> u32
+pub fn guard_judge(rule: &[u32], history: &[u16], numbers: &mut [u64]) -> u32
     ensures result { result ≡ result_for 4 numbers.old (judging form32 rule.now history.now) }
     ensures words { numbers.new ≡ with_words 4 (verdict_words (judging form32 rule.now history.now)) numbers.old }
 {
@@ -130,8 +113,7 @@ pub extern "C" fn guard_judge(rule: &[u32], history: &[u16], numbers: &mut [u64]
 
 // The rule on a history whose registers are known only within limits: questions 1 to 4; 14 of the lows, then the highs; 22; 13; 15 of the
 // lows, then the highs; 23. Two words: place, indices. The answers go to `out`, a byte an index: 0 false, 1 true, 2 open.
-#[unsafe(no_mangle)]
-pub extern "C" fn guard_limits(
+pub fn guard_limits(
     rule: &[u32],
     lows: &[u16],
     highs: &[u16],
@@ -150,8 +132,7 @@ pub extern "C" fn guard_limits(
 
 // A run: questions 1 to 11, and 15 of the inputs, then steps from a fresh start. 22 words: place, stop, line, steps, presentations,
 // inputs read, 16 registers.
-#[unsafe(no_mangle)]
-pub extern "C" fn guard_run(
+pub fn guard_run(
     rule: &[u32],
     script: &[u32],
     inputs: &[u16],
@@ -171,8 +152,7 @@ pub extern "C" fn guard_run(
 
 // The machine at a fresh start. 25 words: line, presentations, inputs read, kept bits, work bits, 16 registers, ready, priors, next priors,
 // the registers that the rule reads.
-#[unsafe(no_mangle)]
-pub extern "C" fn guard_fresh(rule: &[u32], state: &mut [u64]) -> u32
+pub fn guard_fresh(rule: &[u32], state: &mut [u64]) -> u32
     ensures result { result ≡ cond (room_for state_length state.old) 0 too_short }
     ensures words { state.new ≡ with_words state_length (state_words (fresh_state_of form32 rule.now [])) state.old }
 {
@@ -185,8 +165,7 @@ pub extern "C" fn guard_fresh(rule: &[u32], state: &mut [u64]) -> u32
 
 // One step from the machine in `state` to the next, in its place. A register above 65,535, or ready above 1, leaves everything as it
 // was: 98.
-#[unsafe(no_mangle)]
-pub extern "C" fn guard_step(
+pub fn guard_step(
     rule: &[u32],
     script: &[u32],
     inputs: &[u16],

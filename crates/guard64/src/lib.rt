@@ -27,10 +27,9 @@ use script::check_bare64;
 use text::read_text64;
 use weaver::weave64;
 
-mod moving;
+pub mod moving;
 
-#[unsafe(no_mangle)]
-pub extern "C" fn guard_text64(text: &[u8], out: &mut [u64], numbers: &mut [u64]) -> u32
+pub fn guard_text64(text: &[u8], out: &mut [u64], numbers: &mut [u64]) -> u32
     ensures result { result ≡ result_for 2 numbers.old (count_of (texting form64 (length out.old) text.now)) }
     ensures words { numbers.new ≡ with_words 2 (count_words (count_of (texting form64 (length out.old) text.now))) numbers.old }
     ensures output { out.new ≡ cond (room_for 2 numbers.old) (output_of (texting form64 (length out.old) text.now) out.old) out.old }
@@ -41,8 +40,7 @@ pub extern "C" fn guard_text64(text: &[u8], out: &mut [u64], numbers: &mut [u64]
     note_count(read_text64(text, out), numbers)
 }
 
-#[unsafe(no_mangle)]
-pub extern "C" fn guard_rule64(rule: &[u64], numbers: &mut [u64]) -> u32
+pub fn guard_rule64(rule: &[u64], numbers: &mut [u64]) -> u32
     ensures result { result ≡ result_for 1 numbers.old (check_rule form64 rule.now) }
     ensures words { numbers.new ≡ with_words 1 (checked_words (check_rule form64 rule.now)) numbers.old }
 {
@@ -52,8 +50,7 @@ pub extern "C" fn guard_rule64(rule: &[u64], numbers: &mut [u64]) -> u32
     note_place(check_rule64(rule), numbers)
 }
 
-#[unsafe(no_mangle)]
-pub extern "C" fn guard_bare64(rule: &[u64], script: &[u32], numbers: &mut [u64]) -> u32
+pub fn guard_bare64(rule: &[u64], script: &[u32], numbers: &mut [u64]) -> u32
     ensures result { result ≡ result_for 1 numbers.old (check_bare form64 rule.now script.now) }
     ensures words { numbers.new ≡ with_words 1 (checked_words (check_bare form64 rule.now script.now)) numbers.old }
 {
@@ -63,8 +60,7 @@ pub extern "C" fn guard_bare64(rule: &[u64], script: &[u32], numbers: &mut [u64]
     note_place(check_bare64(rule, script), numbers)
 }
 
-#[unsafe(no_mangle)]
-pub extern "C" fn guard_script64(rule: &[u64], script: &[u64], numbers: &mut [u64]) -> u32
+pub fn guard_script64(rule: &[u64], script: &[u64], numbers: &mut [u64]) -> u32
     ensures result { result ≡ result_for 1 numbers.old (check_script form64 rule.now script.now) }
     ensures words { numbers.new ≡ with_words 1 (checked_words (check_script form64 rule.now script.now)) numbers.old }
 {
@@ -74,13 +70,7 @@ pub extern "C" fn guard_script64(rule: &[u64], script: &[u64], numbers: &mut [u6
     note_place(check_script64(rule, script), numbers)
 }
 
-#[unsafe(no_mangle)]
-pub extern "C" fn guard_weave64(
-    rule: &[u64],
-    bare: &[u32],
-    out: &mut [u64],
-    numbers: &mut [u64],
-) -> u32
+pub fn guard_weave64(rule: &[u64], bare: &[u32], out: &mut [u64], numbers: &mut [u64]) -> u32
     ensures result { result ≡ result_for 2 numbers.old (weaving form64 rule.now bare.now out.old) }
     ensures words { numbers.new ≡ with_words 2 (count_words (weaving form64 rule.now bare.now out.old)) numbers.old }
     ensures output { out.new ≡ cond (room_for 2 numbers.old) (output_after form64 rule.now bare.now out.old) out.old }
@@ -91,8 +81,7 @@ pub extern "C" fn guard_weave64(
     note_count(weave64(rule, bare, out), numbers)
 }
 
-#[unsafe(no_mangle)]
-pub extern "C" fn guard_facts64(
+pub fn guard_facts64(
     rule: &[u64],
     instructions: &[u32],
     out: &mut [u64],
@@ -108,8 +97,7 @@ pub extern "C" fn guard_facts64(
     note_count(find_facts64(rule, instructions, out), numbers)
 }
 
-#[unsafe(no_mangle)]
-pub extern "C" fn guard_judge64(rule: &[u64], history: &[u16], numbers: &mut [u64]) -> u32
+pub fn guard_judge64(rule: &[u64], history: &[u16], numbers: &mut [u64]) -> u32
     ensures result { result ≡ result_for 4 numbers.old (judging form64 rule.now history.now) }
     ensures words { numbers.new ≡ with_words 4 (verdict_words (judging form64 rule.now history.now)) numbers.old }
 {
@@ -119,8 +107,7 @@ pub extern "C" fn guard_judge64(rule: &[u64], history: &[u16], numbers: &mut [u6
     note_verdict(verdict64(rule, history), numbers)
 }
 
-#[unsafe(no_mangle)]
-pub extern "C" fn guard_limits64(
+pub fn guard_limits64(
     rule: &[u64],
     lows: &[u16],
     highs: &[u16],
@@ -137,8 +124,7 @@ pub extern "C" fn guard_limits64(
     note_count(limits::judge64(rule, lows, highs, out), numbers)
 }
 
-#[unsafe(no_mangle)]
-pub extern "C" fn guard_run64(
+pub fn guard_run64(
     rule: &[u64],
     script: &[u64],
     inputs: &[u16],
@@ -156,8 +142,7 @@ pub extern "C" fn guard_run64(
     note_report(run64(rule, script, inputs, budget, history), numbers)
 }
 
-#[unsafe(no_mangle)]
-pub extern "C" fn guard_fresh64(rule: &[u64], state: &mut [u64]) -> u32
+pub fn guard_fresh64(rule: &[u64], state: &mut [u64]) -> u32
     ensures result { result ≡ cond (room_for state_length state.old) 0 too_short }
     ensures words { state.new ≡ with_words state_length (state_words (fresh_state_of form64 rule.now [])) state.old }
 {
@@ -168,8 +153,7 @@ pub extern "C" fn guard_fresh64(rule: &[u64], state: &mut [u64]) -> u32
     0
 }
 
-#[unsafe(no_mangle)]
-pub extern "C" fn guard_step64(
+pub fn guard_step64(
     rule: &[u64],
     script: &[u64],
     inputs: &[u16],

@@ -13,8 +13,7 @@ use stations::run_listed;
 // A run of four stations with one allowance: question 21, are four states lent; 1 to 11 of each station, and 15 of the inputs of each; then
 // turns from a fresh start. What `states` held is not read; the four states' words go there, 25 a state. Three words: place, turns, what is
 // left of the allowance.
-#[unsafe(no_mangle)]
-pub extern "C" fn guard_stations(
+pub fn guard_stations(
     states: &mut [u64],
     budget: u64,
     allowance: u64,

@@ -8,8 +8,7 @@ ghost use Rattle.numbers.specs.Stations.{ran_over, StationsNoted};
 use numbers::fours::{count_states, note_run};
 use stations::run_listed64;
 
-#[unsafe(no_mangle)]
-pub extern "C" fn guard_stations64(
+pub fn guard_stations64(
     states: &mut [u64],
     budget: u64,
     allowance: u64,

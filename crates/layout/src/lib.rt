@@ -139,7 +139,8 @@ fn fill_starts(rule: &[u64], bare: &[u32], size: usize, starts: &mut [u16])
     let mut n = 0;
     let mut l = 0;
     while l < bare.len() {
-        if l % 16 == 0 {
+        let marked = l % 16 == 0;
+        if marked {
             starts[l / 16] = n as u16;
         }
         n += line_size(bare[l], size);

@@ -92,6 +92,7 @@ fn answer_limits(
 }
 
 // The request of this kind that starts at word `at`, and where the next one starts.
+// The one error is that of a write that failed; nothing of the caller's changes then.
 pub fn request_limits(rt: &impl Print, s: &[u8], kind: u32, at: usize) -> io::Result<usize>
     requires { at < 16384 }
     ensures { IfOk result (λ next. at < next) }

@@ -16,6 +16,7 @@ fn answer(rt: &impl Print, bytes: &[u8]) -> io::Result<()> {
 }
 
 // The input that starts at word `at`, and where the next one starts.
+// The one error is that of a write that failed; nothing of the caller's changes then.
 fn request(rt: &impl Print, s: &[u8], at: usize) -> io::Result<usize>
     requires { at < 16384 }
     ensures { IfOk result (λ next. at < next) }

@@ -24,7 +24,7 @@ use Rattle.spec.specs.Check.{code_of, annotated_stored, lines_of}
 use Rattle.spec.specs.Machine.{Machine, machine, zeros, fresh, fresh_of, move, Stop, stops, step, unless_stopped, acting, table_within, can_run, step_of}
 use Rattle.spec.specs.Ready.{Readiness, MachineState, worked_out, first_readiness, ready_move, ready_unless, ready_acting, fresh_state_of, ready_step_of, state_step_of}
 use Rattle.spec.proofs.BoolLaws.{clash}
-use Rattle.spec.proofs.OpcodeLaws.{by-opcode}
+use Rattle.spec.proofs.OpcodeLaws.{by_opcode_lem}
 use Rattle.rule.specs.Monitor.{first_priors}
 use Rattle.moves.specs.Moves.{widen_rule}
 use Rattle.moves.proofs.NodeMoveLaws.{table_widen}
@@ -48,7 +48,7 @@ module _ (f : Fields) where
   pub write_opcode : ((leb 1 f.opcode && leb f.opcode 4) || eqb f.opcode 14) ≡ writes_register (instruction_of f)
   unfolding instruction_of
   write_opcode =
-      by-opcode (λ k. ((leb 1 k && leb k 4) || eqb k 14) ≡ writes_register (at k)) refl refl refl refl refl refl refl refl refl refl refl refl refl refl refl
+      by_opcode_lem (λ k. ((leb 1 k && leb k 4) || eqb k 14) ≡ writes_register (at k)) refl refl refl refl refl refl refl refl refl refl refl refl refl refl refl
       (λ k h. rw (lt-leb k 4 (omega arith), ne_eqb k 14 (λ e. omega arith)) (both_false (leb 1 k)) ∙ ap writes_register (high k h)) f.opcode
     where
       both_false : (b : Bool) → (b && false || false) ≡ false
@@ -68,7 +68,7 @@ module _ (f : Fields) where
         → cond (writes_register (at k) && b) (worked_out t s x.priors x.tested) x ≡ ready_move t (at k) s x
     unfolding ready_move
     renew_at b e =
-        by-opcode (λ k. (k ≡ 8 → ⊥) → cond (writes_register (at k) && b) (worked_out t s x.priors x.tested) x ≡ ready_move t (at k) s x)
+        by_opcode_lem (λ k. (k ≡ 8 → ⊥) → cond (writes_register (at k) && b) (worked_out t s x.priors x.tested) x ≡ ready_move t (at k) s x)
         (λ n. refl) (λ n. rw e) (λ n. rw e) (λ n. rw e) (λ n. rw e) (λ n. refl) (λ n. refl) (λ n. refl) (λ n. absurd (n refl)) (λ n. refl) (λ n. refl)
         (λ n. refl) (λ n. refl) (λ n. refl) (λ n. rw e) (λ k h n. ap (λ i. cond (writes_register i && b) (worked_out t s x.priors x.tested) x) (sym (high k h)) ∙ ap (λ i. ready_move t i s x) (high k h))
 

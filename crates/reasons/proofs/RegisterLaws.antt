@@ -20,7 +20,7 @@ use Rattle.spec.specs.Logic.{Trace, equal_registers, since}
 use Rattle.spec.specs.Questions.{all}
 use Rattle.spec.specs.Rule.{Node, false_node, test_node, implies_node, since_node, weak_previous_node, Table, node_at, is_past, operands, formula_from, formula_at, next_from, next_of}
 use Rattle.spec.proofs.BoolLaws.{clash, le_or_lt}
-use Rattle.spec.proofs.RuleLaws.{InOrder, both_lower, one_lower, by-lower, LooksAt, through_is, formula_is}
+use Rattle.spec.proofs.RuleLaws.{InOrder, both_lower, one_lower, by_lower, LooksAt, through_is, formula_is}
 use Rattle.sets.specs.Sets.{set_of, adding}
 use Rattle.sets.proofs.SetLaws.{empty_is, empty_set, adding_is}
 use Rattle.intervals.specs.Limits.{Truth₃, can, open_if}
@@ -190,7 +190,7 @@ module _ (t : Table) (lows highs : Trace) where
     node_here k h on lower (weak_previous_node l) x o f = (rw x at (earlier k (rw x))) ∙ sym (ap (λ φ. (reason_at lows highs φ n).registers) f)
 
     pub registers_here : (k : ℕ) → k < length t → registers_at t v p e k ≡ (node_reason k n).registers
-    registers_here = by-lower Here (λ k lower h.
+    registers_here = by_lower Here (λ k lower h.
         registers_is v p e t ordered k
         ∙ node_here k h (registers_at t v p e) (λ j l. lower j l (omega arith)) (node_at t k) refl (ordered.lower k) (formula_is t ordered k))
 

@@ -26,9 +26,9 @@ use Rattle.spec.specs.Promise.{Weavable}
 use Rattle.spec.specs.Ready.{Readiness, MachineState, ready_move, ready_unless, ready_acting, ready_step_of, state_after}
 use Rattle.spec.specs.ReadyPromise.{ReadyPromise}
 use Rattle.spec.proofs.BoolLaws.{clash, and_both, le_or_lt}
-use Rattle.spec.proofs.RuleLaws.{InOrder, both_lower, by-lower}
+use Rattle.spec.proofs.RuleLaws.{InOrder, both_lower, by_lower}
 use Rattle.spec.proofs.StoredLaws.{GoodForm, good32, good64}
-use Rattle.spec.proofs.WeaverLaws.{by-mention, length_block, start_next}
+use Rattle.spec.proofs.WeaverLaws.{by_mention, length_block, start_next}
 use Rattle.spec.proofs.PlaceLaws.{instruction_at_lem, Stands, stands_line}
 use Rattle.spec.proofs.HandedLaws.{weaving_out, read_back}
 use Rattle.spec.proofs.ReadyLaws.{after_next, right, means, stop_same}
@@ -72,8 +72,8 @@ module _ (t : Table) (ordered : InOrder t) where
 
   quiet_decide : (k : ℕ) → QuietDecision k
   unfolding quiet
-  quiet_decide = by-lower QuietDecision (λ k ih p y n F.
-      by-mention t ordered (λ xs. quiet xs ≡ true) k p y n F (λ s. refl) (λ s. quiet_from k ih (node_at t k) (ordered.lower k) p y n F))
+  quiet_decide = by_lower QuietDecision (λ k ih p y n F.
+      by_mention t ordered (λ xs. quiet xs ≡ true) k p y n F (λ s. refl) (λ s. quiet_from k ih (node_at t k) (ordered.lower k) p y n F))
 
   quiet_update : (x : Node) (k p : ℕ) (F : Facts) → quiet (update t x k p F) ≡ true
   unfolding update setting quiet

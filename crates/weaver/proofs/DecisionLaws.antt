@@ -23,8 +23,8 @@ use Rattle.spec.specs.Script.{if_work, branch, goto, word_for, most_lines}
 use Rattle.spec.specs.Facts.{value_is, Facts, ◌∪◌, one}
 use Rattle.spec.specs.Weaver.{size_from, decide_size, leaf, decide_from, decide}
 use Rattle.spec.proofs.BoolLaws.{clash, decided}
-use Rattle.spec.proofs.RuleLaws.{InOrder, by-lower, both_lower, rule_out}
-use Rattle.spec.proofs.WeaverLaws.{size_shared, size_own, by-mention}
+use Rattle.spec.proofs.RuleLaws.{InOrder, by_lower, both_lower, rule_out}
+use Rattle.spec.proofs.WeaverLaws.{size_shared, size_own, by_mention}
 use Rattle.sets.specs.Sets.{set_of}
 use Rattle.weaver.specs.Parts.{deciding, deciding_size}
 use Rattle.weaver.specs.Laid.{Deciding}
@@ -50,7 +50,7 @@ lower_left t o k l r e = both_lower k l r (ap (λ x. all (λ j. ltb j k) (operan
 
 -- a mention of a shared node has two lines
 pub size_some : (t : Table) → InOrder t → (k : ℕ) → 0 < decide_size t k
-size_some t o = by-lower (λ k. 0 < decide_size t k) (λ k below. elim (decided (is_shared t k)) [
+size_some t o = by_lower (λ k. 0 < decide_size t k) (λ k below. elim (decided (is_shared t k)) [
   | inl s ↦ omega (arith, size_shared t o k s)
   | inr s ↦ subst (λ n. 0 < n) (sym (size_own t o k s))
       (positive (decide_size t) (node_at t k) k (λ j l r e. below l (lower_left t o k l r e).0))
@@ -70,7 +70,7 @@ module _ (t : Table) (order : InOrder t) (k : ℕ) where
   pub by_work_code : (own : Bool) (p y n : ℕ) (F : Facts) → (is_shared t k && not own) ≡ true
       → leaf (if_work k) k p y n F ≡ deciding own t k p y n F
   by_work_code true p y n F e = clash e (and-false (is_shared t k))
-  by_work_code false p y n F e = by-mention t order (λ xs. leaf (if_work k) k p y n F ≡ xs) k p y n F (λ s. refl)
+  by_work_code false p y n F e = by_mention t order (λ xs. leaf (if_work k) k p y n F ≡ xs) k p y n F (λ s. refl)
       (λ s. clash (sym (and-true (is_shared t k)) ∙ e) s)
 
   pub by_kind_size : (own : Bool) → (is_shared t k && not own) ≡ false → deciding_size own t k ≡ size_from (decide_size t) (node_at t k) k
@@ -80,7 +80,7 @@ module _ (t : Table) (order : InOrder t) (k : ℕ) where
   pub by_kind_code : (own : Bool) (p y n : ℕ) (F : Facts) → (is_shared t k && not own) ≡ false
       → decide_from t (decide t) (node_at t k) k p y n F ≡ deciding own t k p y n F
   by_kind_code true p y n F e = refl
-  by_kind_code false p y n F e = by-mention t order (λ xs. decide_from t (decide t) (node_at t k) k p y n F ≡ xs) k p y n F
+  by_kind_code false p y n F e = by_mention t order (λ xs. decide_from t (decide t) (node_at t k) k p y n F ≡ xs) k p y n F
       (λ s. clash s (sym (and-true (is_shared t k)) ∙ e)) (λ s. refl)
 
 -- a node's size looks at its operands for implies only

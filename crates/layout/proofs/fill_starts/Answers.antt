@@ -10,7 +10,7 @@ use Rattle.spec.specs.Script.{bare_code}
 use Rattle.spec.proofs.WeaverLaws.{start_zero}
 use Rattle.layout.proofs.StartLaws.{start_step, bare_few, next_few, start_few, Marked, marked_next, marked_keep}
 use Rattle.layout.proofs.fill_starts.Goals as goal
-use Rattle.layout.proofs.fill_starts.Goals.{then-l-eq0, else-l-eq0}
+use Rattle.layout.proofs.fill_starts.Goals.{then-marked, else-marked}
 
 pub loop-l-init : goal.loop-l-init
 loop-l-init c = let a = c.args in (
@@ -38,15 +38,15 @@ loop-l-preserved c = let a = c.args in
     let room : c.loop-l.l / 16 < length c.loop-l.starts = omega arith in
     let next = start_step t a.bare.now c.loop-l.l c.loop-l.n a.size c.line_size-n.result c.loop-l-test.true c.requires.1
     c.line_size-n.ensures c.loop-l.invariant.3 in
-    let marks : (length c.if-l-eq0.starts ≡ length a.starts.now) × Marked t code c.if-l-eq0.starts (c.loop-l.l + 1) =
-    elim c.if-l-eq0.branch [
-      | then-l-eq0 w ↦ (
+    let marks : (length c.if-marked.starts ≡ length a.starts.now) × Marked t code c.if-marked.starts (c.loop-l.l + 1) =
+    elim c.if-marked.branch [
+      | then-marked w ↦ (
         ap length w.starts-is ∙ length-set c.loop-l.starts (c.loop-l.l / 16) c.loop-l.n ∙ c.loop-l.invariant.2,
-        rw w.starts-is (marked_next t code c.loop-l.starts c.loop-l.l c.loop-l.n w.if-l-eq0.true room c.loop-l.invariant.3 c.loop-l.invariant.4),
+        rw w.starts-is (marked_next t code c.loop-l.starts c.loop-l.l c.loop-l.n w.if-marked.true room c.loop-l.invariant.3 c.loop-l.invariant.4),
       )
-      | else-l-eq0 w ↦ (
+      | else-marked w ↦ (
         ap length w.starts-is ∙ c.loop-l.invariant.2,
-        rw w.starts-is (marked_keep t code c.loop-l.starts c.loop-l.l w.if-l-eq0.false c.loop-l.invariant.4),
+        rw w.starts-is (marked_keep t code c.loop-l.starts c.loop-l.l w.if-marked.false c.loop-l.invariant.4),
       )
     ] in (
       search rules,

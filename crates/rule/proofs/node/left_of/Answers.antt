@@ -6,7 +6,7 @@ use native.Mathlib.Omega.{arith}
 use Rattle.rule.proofs.node.left_of.Goals as goal
 
 pub nonzero_div-result : goal.nonzero_div-result
-nonzero_div-result c = subst (λ x. 0 < x) (sym c.either-unit.ensures) (positive_by c.args.is_wide (2 ^ 37) (2 ^ 38) (omega arith) (omega arith))
+nonzero_div-result c = subst (λ x. 0 < x) (sym c.either-unit.ensures) (positive_by c.args.is_wide _ _ (omega arith) (omega arith))
 
 pub nonzero_rem-result : goal.nonzero_rem-result
 nonzero_rem-result c = subst (λ x. 0 < x) (sym c.either-values.ensures) (positive_by c.args.is_wide (64) (32) (omega arith) (omega arith))

@@ -22,7 +22,7 @@ pub words_in-i-requires : goal.words_in-i-requires
 words_in-i-requires c = let a = c.args in let f0 = (woven_few a.rule.now a.bare.now a.sizes.now a.starts.now a.size a.shared a.past c.requires.0 a.is_wide a.narrow.now a.wide.now c.loop-l.narrow c.loop-l.wide c.loop-l.n c.loop-l.l c.loop-l.invariant.0 c.loop-l.invariant.1 c.requires.1).0 in let f1 = (woven_few a.rule.now a.bare.now a.sizes.now a.starts.now a.size a.shared a.past c.requires.0 a.is_wide a.narrow.now a.wide.now c.loop-l.narrow c.loop-l.wide c.loop-l.n c.loop-l.l c.loop-l.invariant.0 c.loop-l.invariant.1 c.requires.1).1 in f0
 
 pub words_in-j-requires : goal.words_in-j-requires
-words_in-j-requires c = let a = c.args in let f0 = (woven_few a.rule.now a.bare.now a.sizes.now a.starts.now a.size a.shared a.past c.requires.0 a.is_wide a.narrow.now a.wide.now c.loop-l.narrow c.loop-l.wide c.loop-l.n c.loop-l.l c.loop-l.invariant.0 c.loop-l.invariant.1 c.requires.1).0 in let f1 = (woven_few a.rule.now a.bare.now a.sizes.now a.starts.now a.size a.shared a.past c.requires.0 a.is_wide a.narrow.now a.wide.now c.loop-l.narrow c.loop-l.wide c.loop-l.n c.loop-l.l c.loop-l.invariant.0 c.loop-l.invariant.1 c.requires.1).1 in f0
+words_in-j-requires c = let a = c.args in let f0 = (woven_few a.rule.now a.bare.now a.sizes.now a.starts.now a.size a.shared a.past c.requires.0 a.is_wide a.narrow.now a.wide.now c.loop-l.narrow c.loop-l.wide c.loop-l.n c.loop-l.l c.loop-l.invariant.0 c.loop-l.invariant.1 c.requires.1).0 in let f1 = (woven_few a.rule.now a.bare.now a.sizes.now a.starts.now a.size a.shared a.past c.requires.0 a.is_wide a.narrow.now a.wide.now c.loop-l.narrow c.loop-l.wide c.loop-l.n c.loop-l.l c.loop-l.invariant.0 c.loop-l.invariant.1 c.requires.1).1 in omega arith
 
 pub offset_bounds-narrow-i : goal.offset_bounds-narrow-i
 offset_bounds-narrow-i c = let a = c.args in let f0 = (woven_few a.rule.now a.bare.now a.sizes.now a.starts.now a.size a.shared a.past c.requires.0 a.is_wide a.narrow.now a.wide.now c.loop-l.narrow c.loop-l.wide c.loop-l.n c.loop-l.l c.loop-l.invariant.0 c.loop-l.invariant.1 c.requires.1).0 in let f1 = (woven_few a.rule.now a.bare.now a.sizes.now a.starts.now a.size a.shared a.past c.requires.0 a.is_wide a.narrow.now a.wide.now c.loop-l.narrow c.loop-l.wide c.loop-l.n c.loop-l.l c.loop-l.invariant.0 c.loop-l.invariant.1 c.requires.1).1 in let q0 = (part_starts a.is_wide (8 * c.loop-l.n) c.words_in-i.result c.words_in-j.result c.loop-l.narrow c.loop-l.wide c.words_in-i.ensures c.words_in-j.ensures f1).0 in let q1 = (part_starts a.is_wide (8 * c.loop-l.n) c.words_in-i.result c.words_in-j.result c.loop-l.narrow c.loop-l.wide c.words_in-i.ensures c.words_in-j.ensures f1).1 in let m = put_lengths a.is_wide _ _ a.narrow.now a.wide.now _ _ c.loop-l.invariant.0.1 in let m0 = m.0 in let m1 = m.1 in omega arith

@@ -1,0 +1,157 @@
+// The functions of crate guard for C, in a static library: each calls the one of its name there, with the same clauses.
+// include/guard.h says the same to a reader of C.
+#![tactic(auto)]
+
+ghost use Rattle.std.specs.Prelude.{◌≡◌, cond, [], ◌++◌, length, drop};
+ghost use Rattle.spec.specs.Rule.{form32, check_rule};
+ghost use Rattle.spec.specs.Judging.{judging};
+ghost use Rattle.spec.specs.Script.{check_bare};
+ghost use Rattle.spec.specs.Check.{check_script};
+ghost use Rattle.spec.specs.Machine.{running, report_of, history_after};
+ghost use Rattle.spec.specs.Ready.{fresh_state_of};
+ghost use Rattle.spec.specs.Weaver.{weaving, output_after};
+ghost use Rattle.largest.specs.Largest.{found_answer, found_output};
+ghost use Rattle.intervals.specs.Limits.{limiting, limits_output};
+ghost use Rattle.grammar.specs.Texting.{texting, count_of, output_of};
+ghost use Rattle.numbers.specs.Numbers.{room_for, too_short, with_words, result_for, checked_words, count_words, verdict_words, report_words};
+ghost use Rattle.numbers.specs.States.{state_length, state_words, is_stated, step_result, stepped};
+
+// A rule typed as text: questions 16, 17, 18 and 13. Two words: place, nodes. The nodes go to `out`, a word each.
+#[unsafe(no_mangle)]
+pub extern "C" fn guard_text(text: &[u8], out: &mut [u32], numbers: &mut [u64]) -> u32
+    ensures result { result ≡ result_for 2 numbers.old (count_of (texting form32 (length out.old) text.now)) }
+    ensures words { numbers.new ≡ with_words 2 (count_words (count_of (texting form32 (length out.old) text.now))) numbers.old }
+    ensures output { out.new ≡ cond (room_for 2 numbers.old) (output_of (texting form32 (length out.old) text.now) out.old) out.old }
+{
+    guard::guard_text(text, out, numbers)
+}
+
+// A rule: questions 1 to 4. One word: place.
+#[unsafe(no_mangle)]
+pub extern "C" fn guard_rule(rule: &[u32], numbers: &mut [u64]) -> u32
+    ensures result { result ≡ result_for 1 numbers.old (check_rule form32 rule.now) }
+    ensures words { numbers.new ≡ with_words 1 (checked_words (check_rule form32 rule.now)) numbers.old }
+{
+    guard::guard_rule(rule, numbers)
+}
+
+// A bare script for a rule: questions 1 to 7. One word: place.
+#[unsafe(no_mangle)]
+pub extern "C" fn guard_bare(rule: &[u32], script: &[u32], numbers: &mut [u64]) -> u32
+    ensures result { result ≡ result_for 1 numbers.old (check_bare form32 rule.now script.now) }
+    ensures words { numbers.new ≡ with_words 1 (checked_words (check_bare form32 rule.now script.now)) numbers.old }
+{
+    guard::guard_bare(rule, script, numbers)
+}
+
+// An annotated script for a rule: questions 1 to 11. One word: place.
+#[unsafe(no_mangle)]
+pub extern "C" fn guard_script(rule: &[u32], script: &[u32], numbers: &mut [u64]) -> u32
+    ensures result { result ≡ result_for 1 numbers.old (check_script form32 rule.now script.now) }
+    ensures words { numbers.new ≡ with_words 1 (checked_words (check_script form32 rule.now script.now)) numbers.old }
+{
+    guard::guard_script(rule, script, numbers)
+}
+
+// The woven script for a rule: questions 1 to 7, 12 and 13 first. Two words: place, lines. The lines go to `out`, eight words each.
+#[unsafe(no_mangle)]
+pub extern "C" fn guard_weave(
+    rule: &[u32],
+    bare: &[u32],
+    out: &mut [u32],
+    numbers: &mut [u64],
+) -> u32
+    ensures result { result ≡ result_for 2 numbers.old (weaving form32 rule.now bare.now out.old) }
+    ensures words { numbers.new ≡ with_words 2 (count_words (weaving form32 rule.now bare.now out.old)) numbers.old }
+    ensures output { out.new ≡ cond (room_for 2 numbers.old) (output_after form32 rule.now bare.now out.old) out.old }
+{
+    guard::guard_weave(rule, bare, out, numbers)
+}
+
+// The largest facts for instructions without: questions 1 to 7, 19 and 13 first. Two words: place, facts. The annotated lines go to
+// `out`, eight words each.
+#[unsafe(no_mangle)]
+pub extern "C" fn guard_facts(
+    rule: &[u32],
+    instructions: &[u32],
+    out: &mut [u32],
+    numbers: &mut [u64],
+) -> u32
+    ensures result { result ≡ result_for 2 numbers.old (found_answer form32 rule.now instructions.now out.old) }
+    ensures words { numbers.new ≡ with_words 2 (count_words (found_answer form32 rule.now instructions.now out.old)) numbers.old }
+    ensures output { out.new ≡ cond (room_for 2 numbers.old) (found_output form32 rule.now instructions.now out.old) out.old }
+{
+    guard::guard_facts(rule, instructions, out, numbers)
+}
+
+// The verdict on a history: questions 1 to 4, 14 and 15 first. Four words: place; 1 where the rule is false somewhere; the lowest
+// such index; the number of states where there is none.
+#[unsafe(no_mangle)]
+pub extern "C" fn guard_judge(rule: &[u32], history: &[u16], numbers: &mut [u64]) -> u32
+    ensures result { result ≡ result_for 4 numbers.old (judging form32 rule.now history.now) }
+    ensures words { numbers.new ≡ with_words 4 (verdict_words (judging form32 rule.now history.now)) numbers.old }
+{
+    guard::guard_judge(rule, history, numbers)
+}
+
+// The rule on a history whose registers are known only within limits: questions 1 to 4; 14 of the lows, then the highs; 22; 13; 15 of the
+// lows, then the highs; 23. Two words: place, indices. The answers go to `out`, a byte an index: 0 false, 1 true, 2 open.
+#[unsafe(no_mangle)]
+pub extern "C" fn guard_limits(
+    rule: &[u32],
+    lows: &[u16],
+    highs: &[u16],
+    out: &mut [u8],
+    numbers: &mut [u64],
+) -> u32
+    ensures result { result ≡ result_for 2 numbers.old (limiting form32 rule.now lows.now highs.now out.old) }
+    ensures words { numbers.new ≡ with_words 2 (count_words (limiting form32 rule.now lows.now highs.now out.old)) numbers.old }
+    ensures output { out.new ≡ cond (room_for 2 numbers.old) (limits_output form32 rule.now lows.now highs.now out.old) out.old }
+{
+    guard::guard_limits(rule, lows, highs, out, numbers)
+}
+
+// A run: questions 1 to 11, and 15 of the inputs, then steps from a fresh start. 22 words: place, stop, line, steps, presentations,
+// inputs read, 16 registers.
+#[unsafe(no_mangle)]
+pub extern "C" fn guard_run(
+    rule: &[u32],
+    script: &[u32],
+    inputs: &[u16],
+    budget: u64,
+    history: &mut [u16],
+    numbers: &mut [u64],
+) -> u32
+    ensures result { result ≡ result_for 22 numbers.old (running form32 rule.now script.now inputs.now budget history.old) }
+    ensures words { numbers.new ≡ with_words 22 (report_words (report_of (running form32 rule.now script.now inputs.now budget history.old))) numbers.old }
+    ensures left { history.new ≡ cond (room_for 22 numbers.old) (history_after (running form32 rule.now script.now inputs.now budget history.old) history.old) history.old }
+{
+    guard::guard_run(rule, script, inputs, budget, history, numbers)
+}
+
+// The machine at a fresh start. 25 words: line, presentations, inputs read, kept bits, work bits, 16 registers, ready, priors, next priors,
+// the registers that the rule reads.
+#[unsafe(no_mangle)]
+pub extern "C" fn guard_fresh(rule: &[u32], state: &mut [u64]) -> u32
+    ensures result { result ≡ cond (room_for state_length state.old) 0 too_short }
+    ensures words { state.new ≡ with_words state_length (state_words (fresh_state_of form32 rule.now [])) state.old }
+{
+    guard::guard_fresh(rule, state)
+}
+
+// One step from the machine in `state` to the next, in its place. A register above 65,535, or ready above 1, leaves everything as it
+// was: 98.
+#[unsafe(no_mangle)]
+pub extern "C" fn guard_step(
+    rule: &[u32],
+    script: &[u32],
+    inputs: &[u16],
+    history: &mut [u16],
+    state: &mut [u64],
+) -> u32
+    ensures result { result ≡ step_result state.old }
+    ensures words { state.new ≡ cond (is_stated state.old) (state_words (stepped form32 rule.now script.now inputs.now state.old history.old) ++ drop state_length state.old) state.old }
+    ensures left { history.new ≡ cond (is_stated state.old) (stepped form32 rule.now script.now inputs.now state.old history.old).machine.history history.old }
+{
+    guard::guard_step(rule, script, inputs, history, state)
+}
