@@ -1,6 +1,5 @@
 -- What the proofs of the functions cite. No contract cites these files.
 pub mod LastLaws
-pub mod DigitLaws
 pub mod MarkLaws
 pub mod NodeLaws
 pub mod StandLaws

@@ -2,6 +2,7 @@
 -- there (document 02, 2026-04).
 use Rattle.std.specs.Prelude.{Bool, true, cond, ◌&&◌, List, [], ◌∷◌, ◌++◌, map, ℕ, zero, suc, ◌-◌, length, get_or, take, drop, replicate, eqb, ltb, leb}
 use Prim.Native.Char.{code}
+use Rattle.io.specs.Digits.{last_digits}
 use Rattle.spec.specs.Ascii.{ascii}
 use Rattle.spec.specs.Questions.{Answer, passed, refused, Checked}
 use Rattle.spec.specs.Rule.{form32}
@@ -10,7 +11,6 @@ use Rattle.grammar.specs.Scan.{question16}
 use Rattle.grammar.specs.Texting.{texting}
 use Rattle.print.specs.Decimal.{space, newline, refused_text}
 use Rattle.print.specs.Written.{each_of}
-use Rattle.report.specs.Digits.{last_digits}
 
 -- ---- the text of an input: its bytes without the end of the line
 

@@ -33,7 +33,7 @@ fn may_stand(text: &[u8], place: usize, bytes: &[u8]) -> bool
     requires { (length text.now ≤ 65000) × (length bytes.now ≤ 8) }
     ensures { result ≡ may_stand text.now place bytes.now }
 {
-    let mut tried = [0u8; 65536];
+    let mut tried = io::large_buffer();
     stands(text, place, bytes, &mut tried)
 }
 

@@ -6,7 +6,6 @@ ghost use Rattle.spec.specs.Rule.{form32};
 ghost use Rattle.grammar.specs.Texting.{texting};
 ghost use Rattle.print.specs.Written.{Added, Filled};
 ghost use Rattle.report.specs.Compiled.{without_last, text_in, hex_text, node_text, nodes_text, reason_text, answer_text, compiled_text};
-ghost use Rattle.report.specs.Digits.{hex_digit_ascii, last_digits};
 
 use crate::expected::add_expected;
 use crate::mark::add_mark;
@@ -43,32 +42,13 @@ fn text_length(bytes: &[u8]) -> usize
     without_last(bytes, n, b'\r')
 }
 
-// The digit of a number below sixteen, in lower case.
-fn hex_digit(n: u32) -> u8
-    requires { n < 16 }
-    ensures { result ≡ hex_digit_ascii n }
-{
-    if n < 10 { 48 + n as u8 } else { 87 + n as u8 }
-}
-
-// The last `count` hexadecimal digits of n at `at`. Hands back where they end.
-fn add_hex_digits(n: u32, count: usize, at: usize, out: &mut [u8]) -> usize
-    requires { at + count ≤ length out.old }
-    ensures { Added (last_digits 16 count n) at result out.old out.new }
-{
-    if count == 0 {
-        return at;
-    }
-    let k = add_hex_digits(n / 16, count - 1, at, out);
-    out[k] = hex_digit(n % 16);
-    k + 1
-}
-
 fn add_hex(word: u32, at: usize, out: &mut [u8]) -> usize
     requires { at + 8 ≤ length out.old }
     ensures { Filled 8 (hex_text word) at result out.old out.new }
 {
-    add_hex_digits(word, 8, at, out)
+    let mut text = [0u8; 16];
+    let n = io::hex(word as u64, 8, &mut text);
+    add_bytes(&text[..n], at, out)
 }
 
 fn add_node(word: u32, at: usize, out: &mut [u8]) -> usize
