@@ -7,7 +7,7 @@
  *
  * Every function here is proved: for each input it ends, reads and writes only what is lent to it, and answers what
  * crates/spec/specs says, a move what crates/moves/specs says, a run of four stations what crates/turns/specs says, judging within limits
- * what crates/intervals/specs says (the src folders of crates guard, guard64, guard_four and guard_four64 have the contracts).
+ * what crates/intervals/specs says (the src folders of crates guard_c, guard64_c, guard_four_c and guard_four64_c have the contracts).
  *
  * LENT MEMORY. Each array comes as a pointer and its length in elements, not in bytes. A pointer is aligned for its elements and
  * is not null, also where the length is 0 (any aligned address serves then). `const` arrays are only read. An array that a
@@ -108,33 +108,33 @@ enum {
  * interrupts and signal handlers put on the same stack comes on top. */
 enum guard_stack {
     GUARD_STACK_TEXT = 2304,
-    GUARD_STACK_RULE = 256,
+    GUARD_STACK_RULE = 128,
     GUARD_STACK_BARE = 256,
     GUARD_STACK_SCRIPT = 1024,
-    GUARD_STACK_WEAVE = 8192,
-    GUARD_STACK_FACTS = 58496,
+    GUARD_STACK_WEAVE = 8704,
+    GUARD_STACK_FACTS = 58752,
     GUARD_STACK_JUDGE = 512,
     GUARD_STACK_LIMITS = 512,
     GUARD_STACK_RUN = 1152,
     GUARD_STACK_FRESH = 512,
     GUARD_STACK_STEP = 1024,
-    GUARD_STACK_STATIONS = 2816,
+    GUARD_STACK_STATIONS = 3072,
     GUARD_STACK_TEXT64 = 2304,
-    GUARD_STACK_RULE64 = 256,
+    GUARD_STACK_RULE64 = 128,
     GUARD_STACK_BARE64 = 256,
     GUARD_STACK_SCRIPT64 = 768,
-    GUARD_STACK_WEAVE64 = 15104,
+    GUARD_STACK_WEAVE64 = 13056,
     GUARD_STACK_FACTS64 = 58240,
     GUARD_STACK_JUDGE64 = 256,
     GUARD_STACK_LIMITS64 = 256,
-    GUARD_STACK_RUN64 = 896,
+    GUARD_STACK_RUN64 = 1024,
     GUARD_STACK_FRESH64 = 256,
     GUARD_STACK_STEP64 = 768,
-    GUARD_STACK_STATIONS64 = 2688,
+    GUARD_STACK_STATIONS64 = 2816,
     GUARD_STACK_RULE_UP = 256,
     GUARD_STACK_RULE_BACK = 256,
-    GUARD_STACK_SCRIPT_UP = 640,
-    GUARD_STACK_SCRIPT_BACK = 384
+    GUARD_STACK_SCRIPT_UP = 512,
+    GUARD_STACK_SCRIPT_BACK = 256
 };
 
 /* In the numbers of every function. */

@@ -1,15 +1,10 @@
 // One number for many words.
-ghost use Rattle.std.specs.Prelude.{◌≤◌, ◌<◌};
+ghost use Rattle.std.specs.Prelude.{◌<◌};
 
-use requests::loading::split_words;
-use requests::printing::{print_named, print_words};
+use requests::loading::{size_of, split_words};
+use requests::printing::{print_named, print_numbers};
+use rule::stored::Word;
 use std::io;
-
-fn wide(x: u32) -> u64
-    ensures { result ≤ 4294967295 }
-{
-    x as u64
-}
 
 // Goes on from h with all words in their order: for each h := (65,599 h + word) mod 4,294,967,291. The first h is 1.
 pub(crate) fn digest(h: u64, words: &[u32]) -> u64
@@ -18,26 +13,22 @@ pub(crate) fn digest(h: u64, words: &[u32]) -> u64
 {
     let mut d = h;
     for word in words {
-        d = (d * 65599 + wide(*word)) % 4294967291;
+        d = (d * 65599 + u64::from(*word)) % 4294967291;
     }
     d
 }
 
-// A lent output, whole or as a digest.
-pub(crate) fn print_lent(rt: &impl Print, out: &[u32]) -> io::Result<()> {
-    if out.len() <= 256 {
-        print_words(rt, b"words", out)
+// A lent output, whole or as a digest; a word of 64 bits is two.
+pub(crate) fn print_lent<W: Word>(rt: &impl Print, out: &[W]) -> io::Result<()> {
+    if 16384 < out.len() {
+        return Ok(());
+    }
+    let mut buffer = [0u32; 32768];
+    let words = &mut buffer[..size_of(out.len(), W::IS_WIDE)];
+    split_words(out, words);
+    if words.len() <= 256 {
+        print_numbers(rt, b"words", words)
     } else {
-        print_named(rt, b"digest", digest(1, out))
+        print_named(rt, b"digest", digest(1, words))
     }
-}
-
-// The same of words of 64 bits, each as two.
-pub(crate) fn print_lent64(rt: &impl Print, out: &[u64]) -> io::Result<()> {
-    if out.len() <= 16384 {
-        let mut halves = [0u32; 32768];
-        split_words(out, &mut halves);
-        print_lent(rt, &halves[..2 * out.len()])?;
-    }
-    Ok(())
 }

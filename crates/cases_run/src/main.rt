@@ -8,19 +8,20 @@
 // ends a block.
 #![tactic(auto)]
 
-ghost use Rattle.std.specs.Prelude.{◌<◌, ◌≤◌, ◌+◌, IfOk};
+ghost use Rattle.std.specs.Prelude.{◌<◌, ◌≤◌, ◌+◌, IfOk, IfSome};
 
-use crate::finding::{answer_finding, answer_finding64};
+use crate::finding::answer_finding;
 use crate::moving::{answer_back, answer_up};
-use crate::pairs::{answer_pair, answer_pair64};
-use crate::runs::answer_machine;
+use crate::pairs::answer_both;
+use crate::runs::{answer_bare, answer_machine};
 use crate::texts::request_text;
-use crate::weaving::{answer_weaving, answer_weaving64};
+use crate::weaving::answer_weaving;
 use input::read_full;
 use limit_requests::request_limits;
-use requests::loading::{load_long, load_numbers, load_words, size_of};
-use requests::printing::{print_answer, print_number, print_numbers, print_refused, say};
-use rule::answer::Verdict;
+use requests::loading::{load_numbers, load_words, size_of};
+use requests::printing::{print_answer, print_named, print_numbers, print_refused, say};
+use rule::answer::{Refusal, Verdict};
+use rule::stored::Word;
 use station_requests::request_stations;
 use std::io;
 use words::word_at;
@@ -33,50 +34,29 @@ mod runs;
 mod texts;
 mod weaving;
 
-fn print_verdict(rt: &impl Print, v: Verdict) -> io::Result<()> {
+fn print_verdict(rt: &impl Print, v: Result<Verdict, Refusal>) -> io::Result<()> {
     match v {
-        Verdict::Refused { question, place } => print_refused(rt, question, place),
-        Verdict::Breach(index) => {
-            say(rt, b"breach")?;
-            print_number(rt, index)?;
-            say(rt, b"\n")
-        }
-        Verdict::Clean(states) => {
-            say(rt, b"clean")?;
-            print_number(rt, states)?;
-            say(rt, b"\n")
-        }
+        Err(r) => print_refused(rt, r),
+        Ok(Verdict::Breach(index)) => print_named(rt, b"breach", index as u64),
+        Ok(Verdict::Clean(states)) => print_named(rt, b"clean", states as u64),
     }
 }
 
-fn answer_history(
+fn answer_history<W: Word>(
     rt: &impl Print,
-    rule: &[u32],
-    history: &[u16],
-    numbers: usize,
-) -> io::Result<()> {
-    if history.len() < numbers {
-        return Ok(());
-    }
-    let h = &history[..numbers];
+    s: &[u8],
+    rule: &[W],
+    at: usize,
+    count: usize,
+) -> io::Result<()>
+    requires { (at ≤ 20000) × (count ≤ 16384) }
+{
+    let mut buffer = [0u16; 16384];
+    load_numbers(s, at, count, &mut buffer);
+    let history = &buffer[..count];
     print_answer(rt, rule::check_rule(rule))?;
-    print_verdict(rt, rule::verdict(rule, h))?;
-    print_numbers(rt, b"part", rule::judge(rule, h))
-}
-
-fn answer_history64(
-    rt: &impl Print,
-    rule: &[u64],
-    history: &[u16],
-    numbers: usize,
-) -> io::Result<()> {
-    if history.len() < numbers {
-        return Ok(());
-    }
-    let h = &history[..numbers];
-    print_answer(rt, rule::check_rule64(rule))?;
-    print_verdict(rt, rule::verdict64(rule, h))?;
-    print_numbers(rt, b"part", rule::judge64(rule, h))
+    print_verdict(rt, rule::verdict(rule, history))?;
+    print_numbers(rt, b"part", rule::judge(rule, history))
 }
 
 fn answer_script(rt: &impl Print, rule: &[u32], script: &[u32]) -> io::Result<()> {
@@ -86,46 +66,48 @@ fn answer_script(rt: &impl Print, rule: &[u32], script: &[u32]) -> io::Result<()
     print_answer(rt, checker::check_script(rule, script))
 }
 
-// What the entry points answer on the first nodes of the buffer and the `count` words from `at` on.
+// What the entry points answer on a rule of the old form and the `count` words from `at` on. A lent output has ones everywhere, which no
+// node and no line is.
 fn answer(
     rt: &impl Print,
     s: &[u8],
     kind: u32,
-    rule: &[u32],
-    nodes: usize,
+    r: &[u32],
     at: usize,
     count: usize,
 ) -> io::Result<()>
     requires { (at ≤ 20000) × (count ≤ 16384) }
 {
-    if rule.len() < nodes {
-        return Ok(());
-    }
-    let r = &rule[..nodes];
     if kind == 1 {
-        let mut history = [0u16; 16384];
-        load_numbers(s, at, count, &mut history);
-        answer_history(rt, r, &history, count)
-    } else if kind == 25 {
-        answer_pair(rt, s, r, at, count)
+        return answer_history(rt, s, r, at, count);
+    }
+    let mut script = [0u32; 16384];
+    let mut out = [4294967295u32; 16384];
+    if kind == 25 {
+        let n = count / 2;
+        load_words(s, at, n, &mut script);
+        load_words(s, at + n, n, &mut out);
+        return answer_both(rt, r, &mut script[..n], &out[..n]);
+    }
+    load_words(s, at, count, &mut script);
+    let w = &script[..count];
+    let after = at + count;
+    let length = word_at(s, after) as usize;
+    if kind == 2 {
+        answer_script(rt, r, w)
+    } else if (kind == 5) & (length <= 16384) {
+        answer_weaving(rt, r, w, &mut out[..length])
+    } else if (kind == 10) & (length <= 16384) {
+        answer_finding(rt, r, w, &mut out[..length])
+    } else if (21 <= kind) & (length <= 16384) {
+        let mut wide = [18446744073709551615u64; 16384];
+        answer_up(rt, kind, r, w, &mut wide[..length])
+    } else if (kind == 5) | (kind == 10) | (21 <= kind) {
+        Ok(())
+    } else if kind == 6 {
+        answer_bare(rt, s, r, w, &mut out[..8192], after)
     } else {
-        let mut script = [0u32; 16384];
-        load_words(s, at, count, &mut script);
-        let w = &script[..count];
-        let after = at + count;
-        let length = word_at(s, after) as usize;
-        if kind == 2 {
-            answer_script(rt, r, w)
-        } else if kind == 5 {
-            answer_weaving(rt, r, w, length)
-        } else if kind == 10 {
-            answer_finding(rt, r, w, length)
-        } else if 21 <= kind {
-            answer_up(rt, kind, r, w, length)
-        } else {
-            let none = [0u64; 1];
-            answer_machine(rt, s, kind, r, w, &none, &none, after)
-        }
+        answer_machine(rt, s, kind, r, w, after)
     }
 }
 
@@ -141,23 +123,25 @@ fn answer_short(
     requires { (at ≤ 20000) × (count ≤ 16384) }
 {
     if kind == 11 {
-        let mut history = [0u16; 16384];
-        load_numbers(s, at, count, &mut history);
-        answer_history64(rt, r, &history, count)
+        return answer_history(rt, s, r, at, count);
+    }
+    let mut script = [0u32; 16384];
+    let mut out = [18446744073709551615u64; 16384];
+    load_words(s, at, count, &mut script);
+    let w = &script[..count];
+    let after = at + count;
+    let length = word_at(s, after) as usize;
+    if (kind == 15) & (length <= 16384) {
+        answer_weaving(rt, r, w, &mut out[..length])
+    } else if (kind == 20) & (length <= 16384) {
+        answer_finding(rt, r, w, &mut out[..length])
+    } else if (kind == 15) | (kind == 20) {
+        Ok(())
+    } else if kind == 16 {
+        answer_bare(rt, s, r, w, &mut out[..8192], after)
     } else {
-        let mut script = [0u32; 16384];
-        load_words(s, at, count, &mut script);
-        let w = &script[..count];
-        let after = at + count;
-        let length = word_at(s, after) as usize;
-        if kind == 15 {
-            answer_weaving64(rt, r, w, length)
-        } else if kind == 20 {
-            answer_finding64(rt, r, w, length)
-        } else {
-            let none = [0u32; 1];
-            answer_machine(rt, s, kind, &none, w, r, r, after)
-        }
+        // Kinds 18 and 19 are none: the words are read as a script of the old form, with no rule's node.
+        answer_machine(rt, s, kind, &[0u32], w, after)
     }
 }
 
@@ -172,21 +156,29 @@ fn answer_long(
 ) -> io::Result<()>
     requires { (at ≤ 20000) × (count ≤ 16384) }
 {
-    if kind == 26 {
-        return answer_pair64(rt, s, r, at, count);
-    }
     let mut script = [0u64; 16384];
-    load_long(s, at, count, &mut script);
+    if kind == 26 {
+        let n = count / 2;
+        let mut other = [0u64; 16384];
+        load_words(s, at, n, &mut script);
+        load_words(s, at + 2 * n, n, &mut other);
+        return answer_both(rt, r, &mut script[..n], &other[..n]);
+    }
+    load_words(s, at, count, &mut script);
     let w = &script[..count];
     let after = at + 2 * count;
+    let length = word_at(s, after) as usize;
     if kind == 12 {
         say(rt, b"script ")?;
-        print_answer(rt, checker::check_script64(r, w))
+        print_answer(rt, checker::check_script(r, w))
     } else if 21 <= kind {
-        answer_back(rt, kind, r, w, word_at(s, after) as usize)
+        if 16384 < length {
+            return Ok(());
+        }
+        let mut out = [4294967295u32; 16384];
+        answer_back(rt, kind, r, w, &mut out[..length])
     } else {
-        let none = [0u32; 1];
-        answer_machine(rt, s, kind, &none, &none, r, w, after)
+        answer_machine(rt, s, kind, r, w, after)
     }
 }
 
@@ -199,15 +191,15 @@ fn has_long_words(kind: u32) -> bool {
     (12 <= kind) & (kind <= 14) | (kind == 22) | (kind == 24) | (kind == 26)
 }
 
-// The request that starts at word `at`, and where the next one starts.
+// The request that starts at word `at`, and where the next one starts: nowhere where a count is out of range.
 // The one error is that of a write that failed; nothing of the caller's changes then.
-fn request(rt: &impl Print, s: &[u8], at: usize) -> io::Result<usize>
+fn request(rt: &impl Print, s: &[u8], at: usize) -> io::Result<Option<usize>>
     requires { at < 16384 }
-    ensures { IfOk result (λ next. at < next) }
+    ensures { IfOk result (λ next. IfSome next (λ n. at < n)) }
 {
     let kind = word_at(s, at);
     if kind == 0 {
-        return Ok(at + 1);
+        return Ok(Some(at + 1));
     }
     if (7 <= kind) & (kind <= 9) | (kind == 17) | (kind == 31) {
         return request_text(rt, s, kind, at);
@@ -216,20 +208,20 @@ fn request(rt: &impl Print, s: &[u8], at: usize) -> io::Result<usize>
         return request_stations(rt, s, kind, at);
     }
     if (kind == 29) | (kind == 30) {
-        return request_limits(rt, s, kind, at);
+        return Ok(Some(request_limits(rt, s, kind, at)?));
     }
     let nodes = word_at(s, at + 1) as usize;
     if 80 < nodes {
-        return Ok(100000);
+        return Ok(None);
     }
     let start = at + 3 + size_of(nodes, has_long_nodes(kind));
     let count = word_at(s, start - 1) as usize;
     if 16384 < count {
-        return Ok(100000);
+        return Ok(None);
     }
     if has_long_nodes(kind) {
         let mut rule = [0u64; 80];
-        load_long(s, at + 2, nodes, &mut rule);
+        load_words(s, at + 2, nodes, &mut rule);
         if has_long_words(kind) {
             answer_long(rt, s, kind, &rule[..nodes], start, count)?;
         } else {
@@ -238,30 +230,34 @@ fn request(rt: &impl Print, s: &[u8], at: usize) -> io::Result<usize>
     } else {
         let mut rule = [0u32; 80];
         load_words(s, at + 2, nodes, &mut rule);
-        answer(rt, s, kind, &rule, nodes, start, count)?;
+        answer(rt, s, kind, &rule[..nodes], start, count)?;
     }
     let next = start + size_of(count, has_long_words(kind));
     if (kind < 3) | (kind == 11) | (kind == 12) | (25 <= kind) {
-        return Ok(next);
+        return Ok(Some(next));
     }
     if (kind == 5) | (kind == 10) | (kind == 15) | (20 <= kind) {
-        return Ok(next + 1);
+        return Ok(Some(next + 1));
     }
     let inputs = word_at(s, next) as usize;
     if 16384 < inputs {
-        return Ok(100000);
+        return Ok(None);
     }
-    Ok(next + 4 + inputs)
+    Ok(Some(next + 4 + inputs))
 }
 
 // Every request in the bytes, one after another.
 fn requests_in(rt: &impl Print, s: &[u8]) -> io::Result<()> {
     let mut at = 0;
+    // No `for`: each request says where the next one starts.
     while at < s.len() / 4 {
         if 16384 <= at {
             return Ok(());
         }
-        at = request(rt, s, at)?;
+        match request(rt, s, at)? {
+            Some(next) => at = next,
+            None => return Ok(()),
+        }
     }
     Ok(())
 }

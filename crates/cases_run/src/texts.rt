@@ -1,40 +1,32 @@
 // Requests of kinds 7 to 9, 17 and 31, which are bytes: kind, a number, byte count, bytes, which fill whole words. Kinds 7 and 17 read them as a
 // rule typed as text into an output of that many words, of the old form and of the second; kind 8 is an input of the compile program; kind 9
 // reads the text with each of its bytes changed to every byte; kind 31 is an input of the judge_limits program.
-ghost use Rattle.std.specs.Prelude.{◌≡◌, ◌<◌, IfOk, length};
+ghost use Rattle.std.specs.Prelude.{◌≡◌, ◌<◌, IfOk, length, IfSome};
 
-use crate::digests::{digest, print_lent64};
+use crate::digests::{digest, print_lent};
 use print::add_bytes;
-use requests::printing::{print_counted, print_named, print_words, say};
-use rule::answer::Counted;
+use requests::printing::{print_counted, print_named, say};
+use rule::answer::Refusal;
 use std::io;
-use text::{read_text, read_text64};
+use text::read_text;
 use words::word_at;
 
-// The answer, and the lent output afterwards.
-fn answer_lent(rt: &impl Print, text: &[u8], out: &mut [u32]) -> io::Result<()> {
-    print_counted(rt, b"nodes", read_text(text, out))?;
-    print_words(rt, b"words", out)
-}
-
-// An output of that many words is lent. It has 4,294,967,295 everywhere, which no node is.
+// The answer, and the lent output afterwards. An output of that many words is lent, each of ones, which no node is.
 fn answer_text(rt: &impl Print, text: &[u8], length: usize) -> io::Result<()> {
     if length <= 64 {
         let mut out = [4294967295u32; 64];
-        answer_lent(rt, text, &mut out[..length])?;
+        print_counted(rt, b"nodes", read_text(text, &mut out[..length]))?;
+        print_lent(rt, &out[..length])?;
     }
     Ok(())
 }
 
-fn answer_lent64(rt: &impl Print, text: &[u8], out: &mut [u64]) -> io::Result<()> {
-    print_counted(rt, b"nodes", read_text64(text, out))?;
-    print_lent64(rt, out)
-}
-
-fn answer_text64(rt: &impl Print, text: &[u8], length: usize) -> io::Result<()> {
+// The same of the second form.
+fn answer_long_text(rt: &impl Print, text: &[u8], length: usize) -> io::Result<()> {
     if length <= 80 {
         let mut out = [18446744073709551615u64; 80];
-        answer_lent64(rt, text, &mut out[..length])?;
+        print_counted(rt, b"nodes", read_text(text, &mut out[..length]))?;
+        print_lent(rt, &out[..length])?;
     }
     Ok(())
 }
@@ -57,10 +49,10 @@ fn word(n: usize) -> u32 {
 }
 
 // The number and the place, or 0 and the count.
-fn two_words(c: Counted) -> [u32; 2] {
+fn two_words(c: Result<usize, Refusal>) -> [u32; 2] {
     match c {
-        Counted::Refused { question, place } => [question, word(place)],
-        Counted::Count(n) => [0, word(n)],
+        Ok(n) => [0, word(n)],
+        Err(r) => [u32::from(r.question), word(r.place)],
     }
 }
 
@@ -113,7 +105,7 @@ fn answer(rt: &impl Print, kind: u32, number: usize, bytes: &[u8]) -> io::Result
     if kind == 7 {
         answer_text(rt, bytes, number)
     } else if kind == 17 {
-        answer_text64(rt, bytes, number)
+        answer_long_text(rt, bytes, number)
     } else if kind == 8 {
         answer_compile(rt, bytes)
     } else if kind == 31 {
@@ -125,20 +117,25 @@ fn answer(rt: &impl Print, kind: u32, number: usize, bytes: &[u8]) -> io::Result
 
 // The request of this kind that starts at word `at`, and where the next one starts.
 // The one error is that of a write that failed; nothing of the caller's changes then.
-pub(crate) fn request_text(rt: &impl Print, s: &[u8], kind: u32, at: usize) -> io::Result<usize>
+pub(crate) fn request_text(
+    rt: &impl Print,
+    s: &[u8],
+    kind: u32,
+    at: usize,
+) -> io::Result<Option<usize>>
     requires { at < 16384 }
-    ensures { IfOk result (λ next. at < next) }
+    ensures { IfOk result (λ next. IfSome next (λ n. at < n)) }
 {
     let number = word_at(s, at + 1) as usize;
     let size = word_at(s, at + 2) as usize;
     if 65536 < size {
-        return Ok(100000);
+        return Ok(None);
     }
     let start = 4 * at + 12;
     let end = start + size;
     if s.len() < end {
-        return Ok(100000);
+        return Ok(None);
     }
     answer(rt, kind, number, &s[start..end])?;
-    Ok(at + 3 + (size + 3) / 4)
+    Ok(Some(at + 3 + (size + 3) / 4))
 }

@@ -1,9 +1,9 @@
 -- The sets of a stored line, and lines written at a place of a lent output, in either form.
-use Rattle.std.specs.Prelude.{Bool, List, ◌∷◌, map, ℕ, ◌+◌, ◌*◌, ◌≤◌, length}
+use Rattle.std.specs.Prelude.{◌≡◌, Bool, List, ◌∷◌, map, ℕ, ◌+◌, ◌*◌, ◌≤◌, length}
 use Rattle.spec.specs.Facts.{Facts, every_fact}
 use Rattle.spec.specs.Check.{Lines, line_length, nodes_in, fact_word, words_of}
 use Rattle.sets.specs.Sets.{set_of}
-use Rattle.rule.specs.Nodes.{form_by, Put}
+use Rattle.rule.specs.Nodes.{form_by, over_at}
 
 -- the set in a word of facts
 abbrev pub nodes_read : (is_wide : Bool) → (word : ℕ) → ℕ → Bool
@@ -25,5 +25,5 @@ abbrev pub LineSpace : (place : ℕ) → (out : List ℕ) → Type 0
 LineSpace place out = Space place 1 out
 
 -- these lines are written from line `place` on
-abbrev pub Written : (is_wide : Bool) → (place : ℕ) → Lines → (narrow wide narrow' wide' : List ℕ) → Type 0
-Written is_wide place ls narrow wide narrow' wide' = Put is_wide (line_length * place) (words_of (form_by is_wide) ls) narrow wide narrow' wide'
+abbrev pub Written : (is_wide : Bool) → (place : ℕ) → Lines → (before after : List ℕ) → Type 0
+Written is_wide place ls before after = after ≡ over_at (line_length * place) (words_of (form_by is_wide) ls) before

@@ -28,12 +28,10 @@ pub fn group(rule: &[u64]) -> Groups
     let mut nodes = 0;
     let mut sinces = 0;
     let mut weak = 0;
-    let mut k = 0;
-    while k < rule.len() {
+    for (k, word) in rule.iter().enumerate() {
         nodes = with(nodes, k);
-        sinces = with_if(sinces, k, is_since(rule[k]));
-        weak = with_if(weak, k, is_weak_previous(rule[k]));
-        k += 1;
+        sinces = with_if(sinces, k, is_since(*word));
+        weak = with_if(weak, k, is_weak_previous(*word));
     }
     Groups {
         nodes,
@@ -49,8 +47,7 @@ pub fn belonging(rule: &[u64]) -> Facts
 {
     let g = group(rule);
     let past = union(g.sinces, g.weak);
-    let none = [0u32; 1];
-    let work = union(past, used_twice(&none, rule, true));
+    let work = union(past, used_twice(rule));
     Facts {
         t: g.nodes,
         f: g.nodes,

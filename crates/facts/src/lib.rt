@@ -13,7 +13,7 @@ pub mod line;
 
 // The nodes that are true now (t) and false now (f), whose prior is true (a) and false (b), whose kept bit is the prior (m), whose
 // work bit is the next prior (w) and the prior (c).
-#[derive(Clone, Copy)]
+#[derive(Clone, Copy, Default)]
 pub struct Facts {
     pub t: u64,
     pub f: u64,
@@ -45,11 +45,7 @@ pub fn learn_value(x: Facts, k: usize, yes: bool, no: bool) -> Facts
     Facts {
         t: with_if(x.t, k, yes),
         f: with_if(x.f, k, no),
-        a: x.a,
-        b: x.b,
-        m: x.m,
-        w: x.w,
-        c: x.c,
+        ..x
     }
 }
 
@@ -59,12 +55,8 @@ pub fn learn_prior(x: Facts, k: usize, yes: bool, no: bool) -> Facts
     ensures { facts_of result ≡ facts_of x ∪ provided yes (one (prior_is true) k) ∪ provided no (one (prior_is false) k) }
 {
     Facts {
-        t: x.t,
-        f: x.f,
         a: with_if(x.a, k, yes),
         b: with_if(x.b, k, no),
-        m: x.m,
-        w: x.w,
-        c: x.c,
+        ..x
     }
 }

@@ -3,10 +3,10 @@
 --     known_yes, known_no              question 19 at a line
 --     kept_found, count_found          the words written and the facts counted are those found
 --     Writing, writing_start, writing_next    one line more is written
---     seven_no, nineteen_no, room_no, all_yes     the answer, and the output
---     Gives, gives                     in the words of a caller
---     instructions_narrow, found_narrow, instructions_long, found_long, found_wide    a rule of the old form in a local table, and one of the second
---     rule_no, code_last               questions 1 to 7
+--     FoundIn, nineteen_no, room_no, all_yes      the answer, and the output, for a rule of the second form
+--     Gives, gives, seven_no           in the words of a caller
+--     instructions_second, found_second       a rule of either form, held in the second
+--     few_asked, asked_second, no_19, no_13, found_all    the same, question by question
 -- Assumes nothing.
 use mathlib.Core.Path.{◌≡◌, refl, sym, subst, ap, ap₂, ◌∙◌}
 use mathlib.Core.Bool.{Bool, true, false}
@@ -17,9 +17,9 @@ use native.Mathlib.Omega.{arith}
 use lib.ListN.{length, get_or, take, drop, length-append}
 use lib.Seq.{take_at}
 use borrow.Author.Tests.{le-leb, lt-leb}
-use Rattle.spec.specs.Questions.{Answer, passed, refused, Checked}
+use Rattle.spec.specs.Questions.{Answer, passed, refused, ◌then◌}
 use Rattle.spec.specs.Rule.{Form, form32, form64, last_node, check_rule}
-use Rattle.spec.specs.Script.{Code, instruction_read, instruction_at, is_present, bare_code, word_for, annotated_opcode, check_code}
+use Rattle.spec.specs.Script.{Code, instruction_read, instruction_at, is_present, bare_code, bare_stored, word_for, annotated_opcode, check_code}
 use Rattle.spec.specs.Facts.{value_is, Facts, close}
 use Rattle.spec.specs.Check.{Line, line_at, line_words, words_of, present_known, check_script}
 use Rattle.spec.specs.Weaver.{output_for}
@@ -27,8 +27,8 @@ use Rattle.largest.specs.Notes.{Notes, notes_of}
 use Rattle.largest.specs.Largest.{facts_in, count_facts, annotate, check_instructions, found_lines, question19, check_found, found_words, found_count, found_answer, found_output}
 use Rattle.largest.specs.Found.{Largest}
 use Rattle.spec.proofs.BoolLaws.{bool_ext}
-use Rattle.spec.proofs.QuestionLaws.{then_passed, then_refused, both_passed, once_in, once_no, first_no, go_on}
-use Rattle.spec.proofs.RuleLaws.{length_table}
+use Rattle.spec.proofs.QuestionLaws.{then_passed, then_refused, both_passed, once_in, once_no}
+use Rattle.spec.proofs.RuleLaws.{length_table, rule_out}
 use Rattle.spec.proofs.ClosingLaws.{extends}
 use Rattle.spec.proofs.StoredLaws.{GoodForm, good32, good64}
 use Rattle.largest.proofs.LargestLaws.{largest_closed}
@@ -36,19 +36,15 @@ use Rattle.largest.proofs.LargestLoop.{found_lines_lem, line_annotate, count_as}
 use Rattle.largest.proofs.ObeyLaws.{code_at, length_bare, fit_again}
 use Rattle.largest.proofs.LargestPromise.{ready, finding}
 use Rattle.moves.specs.Moves.{widen_rule}
-use Rattle.moves.proofs.NodeMoveLaws.{check_many}
-use Rattle.moves.proofs.LineMoveLaws.{code_widen}
 use Rattle.moves.proofs.FoundMoveLaws.{found_lines_widen, found_widen}
-use Rattle.rule.specs.Nodes.{table_in, form_in, form_by, stored_in, words_in, Put}
-use Rattle.rule.proofs.PutLaws.{put_then, put_none, put_as}
-use Rattle.rule.proofs.WidenLaws.{table_holds}
-use Rattle.script.specs.Lines.{strided}
-use Rattle.script.proofs.StrideLaws.{bare_is}
+use Rattle.rule.specs.Nodes.{table_in, form_in, form_by, over_at, second_form}
+use Rattle.rule.proofs.PutLaws.{over_then, at_none, length_at}
+use Rattle.rule.proofs.SecondLaws.{second_asked, second_table}
 use Rattle.facts.specs.Written.{stored_line}
 use Rattle.facts.proofs.OverLaws.{length_stored}
 use Rattle.finder.specs.Rows.{notes_at, Asked, LargestAt}
 use Rattle.finder.specs.Kept.{gather, kept_lines}
-use Rattle.finder.specs.Answers.{HandsOut, FoundIn}
+use Rattle.finder.specs.Answers.{HandsOut}
 
 -- ---- the lines found
 
@@ -131,68 +127,67 @@ length_kept b ws notes (suc n) =
     ∙ omega (arith, length_kept b ws notes n, length_stored b (get_or ws n 0) (notes_at notes n))
 
 -- the first l lines are written, and their facts counted
-pub record Writing (b : Bool) (ws notes narrow₀ wide₀ narrow wide : List ℕ) (count l : ℕ) : Type 0 where
-  pub narrow_size : length narrow ≡ length narrow₀
-  pub wide_size : length wide ≡ length wide₀
+pub record Writing (b : Bool) (ws notes out₀ out : List ℕ) (count l : ℕ) : Type 0 where
+  pub size : length out ≡ length out₀
   pub counted : count ≡ count_facts 64 l (notes_at notes)
   pub few : count ≤ 448 * l
-  pub written : Put b 0 (kept_lines b ws notes l) narrow₀ wide₀ narrow wide
+  pub written : out ≡ over_at 0 (kept_lines b ws notes l) out₀
 
-pub writing_start : (b : Bool) (ws notes narrow wide : List ℕ) → Writing b ws notes narrow wide narrow wide 0 0
+pub writing_start : (b : Bool) (ws notes out : List ℕ) → Writing b ws notes out out 0 0
 unfolding count_facts gather
-writing_start b ws notes narrow wide =
-    record { narrow_size = refl; wide_size = refl; counted = refl; few = omega arith; written = put_none b 0 narrow wide }
+writing_start b ws notes out = record { size = refl; counted = refl; few = omega arith; written = sym (at_none 0 out) }
 
-pub writing_next : (b : Bool) (ws notes narrow₀ wide₀ narrow wide narrow' wide' : List ℕ) (count n l : ℕ) (F : Facts) → F ≡ notes_at notes l
-    → 8 * l + 8 ≤ length (stored_in b narrow₀ wide₀) → length narrow' ≡ length narrow → length wide' ≡ length wide
-    → (n ≡ facts_in 64 F) × (n ≤ 448) → Put b (8 * l) (stored_line b (get_or ws l 0) F) narrow wide narrow' wide'
-    → Writing b ws notes narrow₀ wide₀ narrow wide count l → Writing b ws notes narrow₀ wide₀ narrow' wide' (count + n) (l + 1)
+pub writing_next : (b : Bool) (ws notes out₀ out out' : List ℕ) (count n l : ℕ) (F : Facts) → F ≡ notes_at notes l → 8 * l + 8 ≤ length out₀
+    → (n ≡ facts_in 64 F) × (n ≤ 448) → out' ≡ over_at (8 * l) (stored_line b (get_or ws l 0) F) out
+    → Writing b ws notes out₀ out count l → Writing b ws notes out₀ out' (count + n) (l + 1)
 unfolding count_facts gather
-writing_next b ws notes narrow₀ wide₀ narrow wide narrow' wide' count n l F f h sn sw c d i =
+writing_next b ws notes out₀ out out' count n l F f h c d i =
     let k = length_kept b ws notes l in
+    let line = stored_line b (get_or ws l 0) (notes_at notes l) in
+    let s = length_stored b (get_or ws l 0) (notes_at notes l) in
+    let one = d ∙ ap (λ G. over_at (8 * l) (stored_line b (get_or ws l 0) G) out) f in
+    let e = i.size in
     record {
-      narrow_size = sn ∙ i.narrow_size;
-      wide_size = sw ∙ i.wide_size;
+      size = ap length one ∙ length_at (8 * l) line out (omega arith) ∙ e;
       counted = rw (add-one l) (ap₂ ◌+◌ i.counted (c.0 ∙ ap (facts_in 64) f));
       few = omega (arith, i.few, c.1);
-      written = rw (add-one l) (put_then b 0 (8 * l) (kept_lines b ws notes l) (stored_line b (get_or ws l 0) (notes_at notes l)) narrow₀ wide₀ narrow wide narrow' wide'
-          (omega arith) (omega arith) i.written (put_as b (8 * l) _ _ narrow wide narrow' wide' (ap (stored_line b (get_or ws l 0)) f) d));
+      written = rw (add-one l) (over_then 0 (8 * l) (kept_lines b ws notes l) line out₀ out out' (omega arith) (omega arith) i.written one);
     }
 
 -- ---- the answer
 
-module _ (rule ws : List ℕ) (b : Bool) (narrow wide : List ℕ) where
-  abbrev out : List ℕ
-  out = stored_in b narrow wide
+-- with a rule of the second form, the lines in either: the answer, and what the output holds
+pub record FoundIn (rule ws : List ℕ) (b : Bool) (out : List ℕ) (a : Answer ℕ) (out' : List ℕ) : Type 0 where
+  pub answer : a ≡ found_answer form_in rule ws out
+  pub output : out' ≡ output_for (words_of (form_by b) (found_lines form_in rule ws)) a out
 
-  pub seven_no : (q i : ℕ) → check_instructions form_in rule ws ≡ refused q i → FoundIn rule ws b narrow wide (refused q i) narrow wide
-  unfolding found_answer check_found
-  seven_no q i e = record { answer = sym (then_refused (check_found form_in rule ws) _ q i (then_refused (check_instructions form_in rule ws) _ q i e)); output = refl }
+module _ (rule ws : List ℕ) (b : Bool) (out : List ℕ) (asked : Asked rule ws) where
+  found_after : check_found form_in rule ws ≡ question19 form_in rule ws
+  unfolding check_found
+  found_after = then_passed _ _ asked
 
-  module _ (asked : Asked rule ws) where
-    found_after : check_found form_in rule ws ≡ question19 form_in rule ws
-    unfolding check_found
-    found_after = then_passed _ _ asked
+  pub nineteen_no : (a : Answer ℕ) (q i : ℕ) → a ≡ refused q i → question19 form_in rule ws ≡ refused q i → FoundIn rule ws b out a out
+  unfolding found_answer
+  nineteen_no a q i told e = record {
+    answer = told ∙ sym (then_refused (check_found form_in rule ws) _ q i (found_after ∙ e));
+    output = ap (λ x. output_for (words_of (form_by b) (found_lines form_in rule ws)) x out) (sym told);
+  }
 
-    pub nineteen_no : (q i : ℕ) → question19 form_in rule ws ≡ refused q i → FoundIn rule ws b narrow wide (refused q i) narrow wide
+  module _ (known : question19 form_in rule ws ≡ passed tt) where
+    found_passed : check_found form_in rule ws ≡ passed tt
+    found_passed = found_after ∙ known
+
+    pub room_no : length out < 8 * length ws → FoundIn rule ws b out (refused 13 0) out
     unfolding found_answer
-    nineteen_no q i e = record { answer = sym (then_refused (check_found form_in rule ws) _ q i (found_after ∙ e)); output = refl }
+    room_no h = record { answer = sym (then_passed (check_found form_in rule ws) _ found_passed ∙ then_refused _ _ 13 0 (once_no 13 _ (lt-leb (8 * length ws) (length out) h))); output = refl }
 
-    module _ (known : question19 form_in rule ws ≡ passed tt) where
-      found_passed : check_found form_in rule ws ≡ passed tt
-      found_passed = found_after ∙ known
-
-      pub room_no : length out < 8 * length ws → FoundIn rule ws b narrow wide (refused 13 0) narrow wide
-      unfolding found_answer
-      room_no h = record { answer = sym (then_passed (check_found form_in rule ws) _ found_passed ∙ then_refused _ _ 13 0 (once_no 13 _ (lt-leb (8 * length ws) (length out) h))); output = refl }
-
-      pub all_yes : (narrow' wide' : List ℕ) (count : ℕ) → 8 * length ws ≤ length out → count ≡ found_count form_in rule ws → (words : List ℕ)
-          → words ≡ words_of (form_by b) (found_lines form_in rule ws) → Put b 0 words narrow wide narrow' wide' → FoundIn rule ws b narrow wide (passed count) narrow' wide'
-      unfolding found_answer
-      all_yes narrow' wide' count h e words w d = record {
-        answer = ap passed e ∙ sym (then_passed (check_found form_in rule ws) _ found_passed ∙ then_passed _ _ (once_in 13 _ (le-leb (8 * length ws) (length out) h)));
-        output = d.there ∙ ap (λ x. x ++ drop (length x) out) w;
-      }
+    pub all_yes : (out' : List ℕ) (count : ℕ) → 8 * length ws ≤ length out → count ≡ found_count form_in rule ws → (words : List ℕ)
+        → words ≡ words_of (form_by b) (found_lines form_in rule ws) → out' ≡ over_at 0 words out → FoundIn rule ws b out (passed count) out'
+    unfolding found_answer
+    all_yes out' count h e words w d = record {
+      answer = ap passed e ∙ sym (then_passed (check_found form_in rule ws) _ found_passed ∙ then_passed _ _ (once_in 13 _ (le-leb (8 * length ws) (length out) h)));
+      output = d ∙ ap (λ x. x ++ drop (length x) out) w;
+    }
 
 -- ---- in the words of a caller
 
@@ -226,42 +221,62 @@ output_narrow rule ws few out (passed n) e =
     let asked = (both_passed (check_instructions form32 rule ws) _ tt (both_passed (check_found form32 rule ws) _ n (sym e)).0).0 in
     ap (λ ls. output_for (words_of form32 ls) (passed n) out) (found_lines_widen rule ws few asked) ∙ ap (λ x. output_for (found_words form32 rule ws) x out) e
 
--- a rule of the old form in a local table
-module _ (rule before table ws : List ℕ) (moved : table ≡ widen_rule rule ++ drop (length rule) before) (few : length rule ≤ 32) where
-  pub instructions_narrow : check_instructions form64 (take (length rule) table) ws ≡ check_instructions form32 rule ws
+-- for a rule of either form, held in the second
+gives_by : (b : Bool) (rule ws out out' : List ℕ) (a : Answer ℕ) → length rule ≤ (form_by b).width
+    → FoundIn (second_form b rule) ws b out a out' → Gives (form_by b) rule ws out a out'
+unfolding found_output found_words form32
+gives_by true rule ws out out' a few f =
+    gives form64 good64 rule ws out a out' f.answer (f.output ∙ ap (λ x. output_for (found_words form64 rule ws) x out) f.answer)
+gives_by false rule ws out out' a few f =
+    let answer = f.answer ∙ found_widen rule ws few out out refl in
+    gives form32 good32 rule ws out a out' answer (f.output ∙ output_narrow rule ws few out a answer)
+
+module _ (b : Bool) (rule ws table : List ℕ) (moved : table ≡ second_form b rule) (few : length rule ≤ (form_by b).width) where
+  pub instructions_second : check_instructions form_in table ws ≡ check_instructions (form_by b) rule ws
   unfolding check_instructions
-  instructions_narrow = ap (λ r. check_instructions form64 r ws) (table_holds rule before table moved) ∙ code_widen annotated_opcode rule ws few
+  instructions_second =
+      ap₂ (λ c t. c then check_code t annotated_opcode (bare_stored ws))
+      (ap (check_rule form_in) moved ∙ second_asked b rule few) (ap table_in moved ∙ second_table b rule)
 
-  pub found_narrow : (out none out' none' : List ℕ) (a : Answer ℕ) → FoundIn (take (length rule) table) ws false out none a out' none' → Gives form32 rule ws out a out'
-  found_narrow out none out' none' a f =
-      let wide = subst (λ r. FoundIn r ws false out none a out' none') (table_holds rule before table moved) f in
-      let answer = wide.answer ∙ found_widen rule ws few out out refl in
-      gives form32 good32 rule ws out a out' answer (wide.output ∙ output_narrow rule ws few out a answer)
+  pub found_second : (out out' : List ℕ) (a : Answer ℕ) → FoundIn table ws b out a out' → Gives (form_by b) rule ws out a out'
+  found_second out out' a f = gives_by b rule ws out out' a few (subst (λ r. FoundIn r ws b out a out') moved f)
 
-module _ (rule ws : List ℕ) (many : 32 < length rule) where
-  pub instructions_long : refused 1 0 ≡ check_instructions form32 rule ws
-  unfolding check_instructions
-  instructions_long = sym (then_refused (check_rule form32 rule) _ 1 0 (check_many rule many))
-
-  pub found_long : (out : List ℕ) → Gives form32 rule ws out (refused 1 0) out
-  unfolding found_answer check_found found_output
-  found_long out =
-      let answer = sym (then_refused (check_found form32 rule ws) _ 1 0 (then_refused (check_instructions form32 rule ws) _ 1 0 (sym instructions_long))) in
-      gives form32 good32 rule ws out (refused 1 0) out answer (ap (λ x. output_for (found_words form32 rule ws) x out) answer)
-
-pub found_wide : (rule ws none out none' out' : List ℕ) (a : Answer ℕ) → FoundIn rule ws true none out a none' out' → Gives form64 rule ws out a out'
+-- of the second form, however many nodes
+pub found_wide : (rule ws out out' : List ℕ) (a : Answer ℕ) → FoundIn rule ws true out a out' → Gives form64 rule ws out a out'
 unfolding found_output found_words
-found_wide rule ws none out none' out' a f =
+found_wide rule ws out out' a f =
     gives form64 good64 rule ws out a out' f.answer (f.output ∙ ap (λ x. output_for (found_words form64 rule ws) x out) f.answer)
 
--- ---- questions 1 to 7
+good_by : (b : Bool) → GoodForm (form_by b)
+good_by true = good64
+good_by false = good32
 
-module _ (rule ws : List ℕ) where
-  pub rule_no : (a : Checked) (q i : ℕ) → a ≡ refused q i → a ≡ check_rule form64 rule → a ≡ check_instructions form64 rule ws
-  unfolding check_instructions
-  rule_no a q i e d = first_no a _ _ q i e d
+module _ (b : Bool) (rule ws : List ℕ) where
+  -- questions 1 to 7 have a no
+  pub seven_no : (out : List ℕ) (a : Answer ℕ) (q i : ℕ) → a ≡ refused q i → check_instructions (form_by b) rule ws ≡ refused q i → Gives (form_by b) rule ws out a out
+  unfolding found_answer check_found found_output
+  seven_no out a q i told e =
+      let answer = told ∙ sym (then_refused (check_found (form_by b) rule ws) _ q i (then_refused (check_instructions (form_by b) rule ws) _ q i e)) in
+      gives (form_by b) (good_by b) rule ws out a out answer (ap (λ x. output_for (found_words (form_by b) rule ws) x out) (sym told ∙ answer))
 
-  pub code_last : check_rule form64 rule ≡ passed tt → (a : Checked)
-      → a ≡ check_code (table_in rule) annotated_opcode (strided true 1 (length ws) (words_in false ws [])) → a ≡ check_instructions form64 rule ws
-  unfolding check_instructions
-  code_last y a d = go_on a _ _ y (d ∙ ap (check_code (table_in rule) annotated_opcode) (bare_is ws []))
+  module _ (asked : check_instructions (form_by b) rule ws ≡ passed tt) where
+    pub few_asked : length rule ≤ (form_by b).width
+    few_asked = (rule_out (form_by b) rule (ready (form_by b) rule ws asked).rule_passed).few_nodes
+
+    module _ (table : List ℕ) (moved : table ≡ second_form b rule) where
+      pub asked_second : Asked table ws
+      asked_second = instructions_second b rule ws table moved few_asked ∙ asked
+
+      -- question 19 has a no, 13, and neither
+      pub no_19 : (out : List ℕ) (a : Answer ℕ) (q i : ℕ) → a ≡ refused q i → question19 form_in table ws ≡ refused q i → Gives (form_by b) rule ws out a out
+      no_19 out a q i told e = found_second b rule ws table moved few_asked out out a (nineteen_no table ws b out asked_second a q i told e)
+
+      module _ (out : List ℕ) (known : question19 form_in table ws ≡ passed tt) where
+        pub no_13 : length out < 8 * length ws → Gives (form_by b) rule ws out (refused 13 0) out
+        no_13 h = found_second b rule ws table moved few_asked out out (refused 13 0) (room_no table ws b out asked_second known h)
+
+        pub found_all : (out' notes : List ℕ) (count : ℕ) → 8 * length ws ≤ length out → LargestAt table ws notes → ((l : ℕ) → l < length ws → get_or ws l 0 < 4294967296)
+            → count ≡ count_facts 64 (length ws) (notes_at notes) → out' ≡ over_at 0 (kept_lines b ws notes (length ws)) out → Gives (form_by b) rule ws out (passed count) out'
+        found_all out' notes count h a small e d =
+            found_second b rule ws table moved few_asked out out' (passed count)
+            (all_yes table ws b out asked_second known out' count h (e ∙ count_found table ws notes asked_second a) _ (kept_found table ws notes asked_second a b small) d)

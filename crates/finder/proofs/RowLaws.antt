@@ -4,13 +4,15 @@
 --     Meeting, meeting_start, meeting_next    seven words met, one after another
 --     cut_same, cut_changed               then line m is cut
 --     loaded                              a line read
---     way_none, way_some                  no line follows, or one
+--     way_where, way_has                  no line follows, or one
 --     Spread, spread_by                   both ways out of a line
 -- Assumes nothing.
 use mathlib.Core.Path.{◌≡◌, refl, sym, subst, ap, ◌∙◌, fun_ext}
 use mathlib.Core.Logic.{◌⊎◌, inl, inr}
 use mathlib.Core.Bool.{Bool, true, false, cond, not, ◌||◌}
 use mathlib.Core.Option.{Option, none, some}
+use Rattle.std.specs.Prelude.{Option as Maybe, IfSome}
+use Rattle.std.specs.Bool.{then_some}
 use mathlib.Core.List.{List, [], ◌∷◌}
 use Prim.Native.Nat.{ℕ, zero, suc, ◌+◌, ◌*◌, ◌≤◌, ◌<◌}
 use native.Mathlib.Omega.{arith}
@@ -27,7 +29,7 @@ use Rattle.sets.specs.Sets.{set_of}
 use Rattle.facts.specs.FactSets.{word_of}
 use Rattle.facts.specs.declared.Facts.{Facts as FactWords}
 use Rattle.sets.proofs.WordLaws.{word_and}
-use Rattle.finder.specs.Rows.{notes_at, flag_of, total, met_at, changes_at, FlagSet, Lessens, WayDone}
+use Rattle.finder.specs.Rows.{notes_at, flag_of, total, met_at, changes_at, FlagSet, Lessens, way_to, WayDone}
 use Rattle.facts.specs.FactSets.{facts_of}
 use Rattle.finder.proofs.FlagLaws.{same_or_other}
 
@@ -235,21 +237,13 @@ loaded ws l = fun_ext (λ f. ap set_of (row_read ws l f))
 
 -- ---- both ways out of a line
 
-pub way_none : (notes flags : List ℕ) (G : Facts) → WayDone notes flags none G notes flags false
-way_none notes flags G = record {
-  lessens = record { notes_size = refl; flags_size = refl; no_more = le_refl _; less = λ e. clash e refl };
-  within = λ l f k e. e;
-  inside = λ m e. let z : ◌≡◌ {A = ℕ} 0 1 = cc in absurd (omega arith);
-  kept = λ l f k e u. e;
-  down = λ l e. e;
-  unmoved = λ l e f k u. u;
-  same = λ e l. refl;
-}
+pub way_where : (b : Bool) (m : ℕ) (o : Maybe ℕ) → o ≡ then_some b m → way_to o ≡ cond b (some m) none
+way_where true m o e = rw e refl
+way_where false m o e = rw e refl
 
-pub way_some : (notes flags : List ℕ) (b : Bool) (m : ℕ) (G H : Facts) (notes' flags' : List ℕ) (r : Bool) → b ≡ true → H ≡ G
-    → WayDone notes flags (some m) H notes' flags' r → WayDone notes flags (cond b (some m) none) G notes' flags' r
-way_some notes flags b m G H notes' flags' r y e d =
-    subst (λ x. WayDone notes flags (cond x (some m) none) G notes' flags' r) (sym y) (subst (λ F. WayDone notes flags (some m) F notes' flags' r) e d)
+pub way_has : (b : Bool) (m : ℕ) (o : Maybe ℕ) (P : ℕ → Type 0) → o ≡ then_some b m → (b ≡ true → P m) → IfSome o P
+way_has true m o P e h = rw e (h refl)
+way_has false m o P e h = rw e tt
 
 -- both ways out of line l, whose flag went down first: line o keeps what is in Y, line p what is in N
 pub record Spread (notes flags : List ℕ) (l : ℕ) (o p : Option ℕ) (Y N : Facts) (notes' flags' : List ℕ) (r : Bool) : Type 0 where

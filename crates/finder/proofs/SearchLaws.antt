@@ -2,9 +2,9 @@
 --     room_line, room_all, room_same, few_nodes, rule_passed, names_at, target_in, next_in    what questions 1 to 7 say of a line
 --     facts_closed                        a line's notes are closed
 --     Leads, leads, push_done             a line pushed
---     swept_start, swept_next, swept_end  a sweep
---     Settling, settling_start, settling_next, left, left_less    sweeps, and their measure
---     Putting, putting_start, putting_next, putting_end           a line's seven words written
+--     before, next_line, at_flag, later, swept_start, swept_next    a sweep
+--     Settling                            sweeps
+--     pasted, length_pasted, put_done     a line's seven words written
 --     Prepared, prepared_start, prepared_next, prepared_end       the start
 --     settled_largest                     the end
 -- Assumes nothing.
@@ -12,14 +12,15 @@ use mathlib.Core.Path.{◌≡◌, refl, sym, subst, ap, ◌∙◌, fun_ext}
 use mathlib.Core.Logic.{inl, inr}
 use mathlib.Core.Bool.{Bool, true, false, cond, ◌||◌}
 use mathlib.Core.Option.{Option, none, some}
-use mathlib.Core.List.{List}
-use Prim.Native.Nat.{ℕ, zero, suc, ◌+◌, ◌*◌, ◌≤◌, ◌<◌}
+use mathlib.Core.List.{List, ◌++◌}
+use Prim.Native.Nat.{ℕ, zero, suc, ◌+◌, ◌-◌, ◌*◌, ◌≤◌, ◌<◌}
 use native.Mathlib.Nat.{le_refl}
 use native.Mathlib.Numerals.{add-one}
 use native.Mathlib.Omega.{arith}
-use lib.ListN.{length, get_or, set, length-set, replicate, length-replicate}
-use lib.Seq.{get_or-set_same, get_or-set_other}
+use lib.ListN.{length, get_or, get_or-append, take, drop, length-append, length-drop, replicate, length-replicate}
+use Rattle.std.proofs.lemmas.List.{get_or-append_right, get_or-take, get_or-drop, length-take-le}
 use borrow.Author.Tests.{ltb-true}
+use Rattle.std.specs.Prelude.{Option as Maybe, Some, None, IfSome}
 use Rattle.spec.specs.Rule.{form64, Table}
 use Rattle.spec.specs.Script.{instruction_read, Code, bare_code, instruction_at, target_of, goes_on, names_allowed, is_line, followers_exist, Instruction}
 use Rattle.spec.specs.Facts.{word_number, Facts, ◌⊑◌, belongs, close, pass, first_facts}
@@ -36,7 +37,7 @@ use Rattle.largest.proofs.LargestPromise.{ready}
 use Rattle.sets.specs.Sets.{set_of, capacity}
 use Rattle.facts.specs.declared.Facts.{Facts as FactWords}
 use Rattle.script.specs.Lines.{target_where}
-use Rattle.finder.specs.Rows.{notes_at, flag_of, HasLine, Room, Asked, total, Put, FlagSet, NextFlag, Search, Searched, Pushed, Swept, LargestAt}
+use Rattle.finder.specs.Rows.{notes_at, flag_of, HasLine, Room, Asked, Put, FlagSet, NextLine, Search, Searched, Pushed, Swept, LargestAt}
 use Rattle.facts.specs.FactSets.{facts_of}
 use Rattle.rule.specs.Nodes.{table_in, RulePasses, form_in}
 use Rattle.finder.proofs.FlagLaws.{same_or_other}
@@ -214,94 +215,97 @@ searched_both rule ws notes notes' notes'' flags flags' flags'' r r' s v = recor
   known = v.known;
 }
 
-pub swept_start : (rule ws notes flags : List ℕ) (l : ℕ) → Search (table_in rule) (bare_code ws) notes flags → NextFlag flags 0 (length ws) l
-    → Swept rule ws notes flags notes flags false l
-swept_start rule ws notes flags l s n = record { searched = nothing_done rule ws notes flags s; down = λ d j h i. n.none_before j (omega arith) h i }
+-- the lines before the next one with a flag: all of them, where none has
+unfoldable pub before : (lines : ℕ) → Maybe ℕ → ℕ
+before lines None = lines
+before lines (Some l) = l
 
--- line l was pushed, and the next flag is at line m
-pub swept_next : (rule ws notes flags notes' flags' notes'' flags'' : List ℕ) (again r : Bool) (l m : ℕ)
-    → Swept rule ws notes flags notes' flags' again l → Pushed rule ws notes' flags' l notes'' flags'' r → NextFlag flags'' (l + 1) (length ws) m
-    → Swept rule ws notes flags notes'' flags'' (r || again) m
-swept_next rule ws notes flags notes' flags' notes'' flags'' again r l m s v n = record {
+-- none of those has a flag
+unflagged : (flags : List ℕ) (start lines : ℕ) (o : Maybe ℕ) → NextLine flags start lines o
+    → (m : ℕ) → start ≤ m → m < before lines o → m < lines → flag_of flags m ≡ false
+unfolding before
+unflagged flags start lines None n m a b c = n m a c
+unflagged flags start lines (Some l) n m a b c = n.1.none_before m a b c
+
+pub next_line : (flags : List ℕ) (start lines : ℕ) (o : Maybe ℕ) → NextLine flags start lines o → IfSome o (λ l. l < lines)
+next_line flags start lines None n = tt
+next_line flags start lines (Some l) n = n.0
+
+-- the next one is at line l, and the one after it is later
+pub at_flag : (lines l : ℕ) (o : Maybe ℕ) → o ≡ Some l → before lines o ≡ l
+unfolding before
+at_flag lines l o e = ap (before lines) e
+
+pub later : (flags : List ℕ) (lines l : ℕ) (o p : Maybe ℕ) → o ≡ Some l → IfSome o (λ m. m < lines) → NextLine flags (l + 1) lines p
+    → lines - before lines p < lines - before lines o
+unfolding before
+later flags lines l o None e h n = let i : l < lines = rw e at h in rw e (omega arith)
+later flags lines l o (Some m) e h n = let i : l < lines = rw e at h in let f = n.1.from in rw e (omega arith)
+
+pub swept_start : (rule ws notes flags : List ℕ) (o : Maybe ℕ) → Search (table_in rule) (bare_code ws) notes flags → NextLine flags 0 (length ws) o
+    → Swept rule ws notes flags notes flags false (before (length ws) o)
+swept_start rule ws notes flags o s n =
+    record { searched = nothing_done rule ws notes flags s; down = λ d j h i. unflagged flags 0 (length ws) o n j (omega arith) h i }
+
+-- line l was pushed, and o is the next with a flag
+pub swept_next : (rule ws notes flags notes' flags' notes'' flags'' : List ℕ) (again r : Bool) (l : ℕ) (o : Maybe ℕ)
+    → Swept rule ws notes flags notes' flags' again l → Pushed rule ws notes' flags' l notes'' flags'' r → NextLine flags'' (l + 1) (length ws) o
+    → Swept rule ws notes flags notes'' flags'' (r || again) (before (length ws) o)
+swept_next rule ws notes flags notes' flags' notes'' flags'' again r l o s v n = record {
   searched = searched_both rule ws notes notes' notes'' flags flags' flags'' again r s.searched v.searched;
   down = λ e j h i. let (a, b) = or_none r again e in elim (le_or_lt (l + 1) j) [
-    | inl u ↦ n.none_before j u h i
+    | inl u ↦ unflagged flags'' (l + 1) (length ws) o n j u h i
     | inr u ↦ v.down a j (elim (same_or_other j l) [ inl z ↦ inl z | inr z ↦ inr (s.down b j (omega (arith, z)) i) ])
   ];
 }
 
--- past the last line
-pub swept_end : (rule ws notes flags notes' flags' : List ℕ) (r : Bool) (l : ℕ) → length ws ≤ l → Swept rule ws notes flags notes' flags' r l
-    → Swept rule ws notes flags notes' flags' r (length ws)
-swept_end rule ws notes flags notes' flags' r l h s = record { searched = s.searched; down = λ e j a b. s.down e j (omega arith) b }
-
 -- ---- sweeps
 
--- at a sweep's start: the notes of the search so far, and no flag is up unless there is another sweep
-pub record Settling (rule ws notes flags notes' flags' : List ℕ) (again : Bool) : Type 0 where
+-- at a sweep's start: the notes of the search so far
+pub record Settling (rule ws notes flags notes' flags' : List ℕ) : Type 0 where
   pub notes_size : length notes' ≡ length notes
   pub flags_size : length flags' ≡ length flags
   pub known : Search (table_in rule) (bare_code ws) notes' flags'
-  pub down : again ≡ false → (l : ℕ) → l < length ws → flag_of flags' l ≡ false
-
-pub settling_start : (rule ws notes flags : List ℕ) → Search (table_in rule) (bare_code ws) notes flags → Settling rule ws notes flags notes flags true
-settling_start rule ws notes flags s = record { notes_size = refl; flags_size = refl; known = s; down = λ d. clash refl d }
-
-pub settling_next : (rule ws notes flags notes' flags' notes'' flags'' : List ℕ) (again r : Bool)
-    → Settling rule ws notes flags notes' flags' again → Swept rule ws notes' flags' notes'' flags'' r (length ws)
-    → Settling rule ws notes flags notes'' flags'' r
-settling_next rule ws notes flags notes' flags' notes'' flags'' again r s v = record {
-  notes_size = v.searched.lessens.notes_size ∙ s.notes_size;
-  flags_size = v.searched.lessens.flags_size ∙ s.flags_size;
-  known = v.searched.known;
-  down = λ e l h. v.down e l h h;
-}
-
--- the measure of the sweeps
-pub left : List ℕ → Bool → ℕ
-left notes true = suc (total notes)
-left notes false = total notes
-
-pub left_less : (rule ws notes flags notes' flags' : List ℕ) (again r : Bool) (n : ℕ) → again ≡ true
-    → Swept rule ws notes flags notes' flags' r n → left notes' r < left notes again
-unfolding left
-left_less rule ws notes flags notes' flags' again r n e s =
-    subst (λ x. left notes' r < left notes x) (sym e) (go r s.searched.lessens.less)
-  where
-    go : (b : Bool) → (b ≡ true → total notes' < total notes) → left notes' b < suc (total notes)
-    go true u = omega (arith, u refl)
-    go false u = omega (arith, s.searched.lessens.no_more)
 
 -- ---- a line's seven words written
 
-pub record Putting (notes₀ : List ℕ) (i : ℕ) (words notes : List ℕ) (j : ℕ) : Type 0 where
-  pub size : length notes ≡ length notes₀
-  pub hit : (y : ℕ) → y < j → get_or notes (i + y) 0 ≡ get_or words y 0
-  pub other : (x : ℕ) → ((y : ℕ) → y < j → x ≡ i + y → ⊥) → get_or notes x 0 ≡ get_or notes₀ x 0
+-- ys stand in the place of the k words from word a on
+module _ (a k : ℕ) (xs ys : List ℕ) (h : a ≤ length xs) (e : length ys ≡ k) where
+  abbrev pub pasted : List ℕ
+  pasted = take a xs ++ (ys ++ drop k (drop a xs))
 
-pub putting_start : (notes : List ℕ) (i : ℕ) (words : List ℕ) → Putting notes i words notes 0
-putting_start notes i words = record { size = refl; hit = λ y h. absurd (omega arith); other = λ x h. refl }
+  pasted_inside : (j : ℕ) → j < k → get_or pasted (a + j) 0 ≡ get_or ys j 0
+  pasted_inside j i =
+      let z : a + j - a ≡ j = omega arith in
+      get_or-append_right (take a xs) (ys ++ drop k (drop a xs)) a (a + j) 0 (length-take-le a xs h) (omega arith)
+      ∙ ap (λ n. get_or (ys ++ drop k (drop a xs)) n 0) z ∙ get_or-append ys (drop k (drop a xs)) 0 j (omega arith)
 
-pub putting_next : (notes₀ : List ℕ) (i : ℕ) (words notes : List ℕ) (j : ℕ) → Putting notes₀ i words notes j → i + j < length notes₀
-    → Putting notes₀ i words (set notes (i + j) (get_or words j 0)) (j + 1)
-putting_next notes₀ i words notes j m h =
-    let w = get_or words j 0 in
-    let here : i + j < length notes = omega (arith, m.size) in
+  pasted_ahead : (i : ℕ) → i < a → get_or pasted i 0 ≡ get_or xs i 0
+  pasted_ahead i l = get_or-append (take a xs) (ys ++ drop k (drop a xs)) 0 i (omega (arith, length-take-le a xs h)) ∙ get_or-take a xs i 0 l
+
+  pasted_behind : (i : ℕ) → a + k ≤ i → get_or pasted i 0 ≡ get_or xs i 0
+  pasted_behind i l =
+      let z : a + (k + (i - a - k)) ≡ i = omega arith in
+      get_or-append_right (take a xs) (ys ++ drop k (drop a xs)) a i 0 (length-take-le a xs h) (omega arith)
+      ∙ get_or-append_right ys (drop k (drop a xs)) k (i - a) 0 e (omega arith)
+      ∙ get_or-drop k (drop a xs) (i - a - k) 0 ∙ get_or-drop a xs (k + (i - a - k)) 0 ∙ ap (λ n. get_or xs n 0) z
+
+  pub length_pasted : a + k ≤ length xs → length pasted ≡ length xs
+  length_pasted n = simp (length-append, length-drop) (omega (arith, length-take-le a xs h))
+
+pub put_done : (notes : List ℕ) (l : ℕ) (x : FactWords) (ws : List ℕ) → 7 * l + 7 ≤ length notes → ws ≡ words_in x
+    → Put notes l (facts_of x) (take (7 * l) notes ++ (ws ++ drop 7 (drop (7 * l) notes)))
+put_done notes l x ws h e =
+    let n : 7 * l ≤ length notes = omega arith in
+    let k : length ws ≡ 7 = ap length e in
     record {
-      size = length-set notes (i + j) w ∙ m.size;
-      hit = λ y u. elim (same_or_other y j) [
-        | inl z ↦ subst (λ x. get_or (set notes (i + j) w) (i + x) 0 ≡ get_or words x 0) (sym z) (get_or-set_same notes (i + j) w 0 here)
-        | inr z ↦ get_or-set_other notes (i + j) (i + y) w 0 (λ e. omega (arith, z)) ∙ m.hit y (omega (arith, z))
-      ];
-      other = λ x d. get_or-set_other notes (i + j) x w 0 (d j (omega arith)) ∙ m.other x (λ y u. d y (omega arith));
+      size = length_pasted (7 * l) 7 notes ws n k h;
+      at_line = fun_ext (λ f. ap set_of (pasted_inside (7 * l) 7 notes ws n k (word_number f) (number_small f) ∙ ap (λ ys. get_or ys (word_number f) 0) e ∙ word_of_lem x f));
+      others = λ j d. fun_ext (λ f. let i : word_number f < 7 = number_small f in ap set_of (elim (le_or_lt l j) [
+        | inl u ↦ pasted_behind (7 * l) 7 notes ws n k (7 * j + word_number f) (omega (arith, d))
+        | inr u ↦ pasted_ahead (7 * l) 7 notes ws n k (7 * j + word_number f) (omega arith)
+      ]));
     }
-
-pub putting_end : (notes₀ notes : List ℕ) (l : ℕ) (x : FactWords) → Putting notes₀ (7 * l) (words_in x) notes 7 → Put notes₀ l (facts_of x) notes
-putting_end notes₀ notes l x m = record {
-  size = m.size;
-  at_line = fun_ext (λ f. ap set_of (m.hit (word_number f) (number_small f) ∙ word_of_lem x f));
-  others = λ j d. fun_ext (λ f. ap set_of (m.other (7 * j + word_number f) (λ y u e. let n : word_number f < 7 = number_small f in d (omega arith))));
-}
 
 -- ---- the start
 

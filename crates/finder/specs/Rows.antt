@@ -1,7 +1,7 @@
 -- The notes of the search as they are kept, seven words of 64 bits a line in one list, the flags of the lines, 64 in a word, and what
 -- each step of the search does to them. A flag says that the line's notes changed since it was last pushed.
-use Rattle.std.specs.Prelude.{◌≡◌, Bool, true, false, not, ◌⊎◌, List, [], ◌∷◌, ℕ, ◌+◌, ◌*◌, ◌/◌, ◌%◌, ◌≤◌, ◌<◌, length, get_or, set, eqb}
-use Rattle.std.proofs.Math.Option.{Option, some}
+use Rattle.std.specs.Prelude.{◌≡◌, Bool, true, false, not, ◌⊎◌, List, [], ◌∷◌, ℕ, ◌+◌, ◌*◌, ◌/◌, ◌%◌, ◌≤◌, ◌<◌, length, get_or, set, eqb, Option as Maybe, Some, None}
+use Rattle.std.proofs.Math.Option.{Option, none, some}
 use Rattle.std.specs.Int.Bits.{bit_and}
 use Rattle.spec.specs.Questions.{Checked, passed}
 use Rattle.spec.specs.Rule.{Table}
@@ -67,6 +67,11 @@ pub record NextFlag (flags : List ℕ) (start lines r : ℕ) : Type 0 where
   pub none_before : (m : ℕ) → start ≤ m → m < r → m < lines → flag_of flags m ≡ false
   pub is_there : r < lines → flag_of flags r ≡ true
 
+-- o is that line, if one has a flag
+abbrev pub NextLine : (flags : List ℕ) (start lines : ℕ) → Maybe ℕ → Type 0
+NextLine flags start lines None = (m : ℕ) → start ≤ m → m < lines → flag_of flags m ≡ false
+NextLine flags start lines (Some l) = (l < lines) × NextFlag flags start lines l
+
 -- ---- one line cut
 
 -- word i keeps the bits that are in g; whether some went
@@ -82,6 +87,11 @@ pub record Lessens (notes flags notes' flags' : List ℕ) (r : Bool) : Type 0 wh
   pub flags_size : length flags' ≡ length flags
   pub no_more : total notes' ≤ total notes
   pub less : r ≡ true → total notes' < total notes
+
+-- the line that follows, if one does
+abbrev pub way_to : Maybe ℕ → Option ℕ
+way_to None = none
+way_to (Some m) = some m
 
 -- the line o, if there is one, keeps of its notes those in G, and is flagged if some went
 pub record WayDone (notes flags : List ℕ) (o : Option ℕ) (G : Facts) (notes' flags' : List ℕ) (r : Bool) : Type 0 where

@@ -1,6 +1,6 @@
 // Flags for lines, 64 in a word: the lines to look at again.
 ghost use Rattle.std.specs.Prelude.{true, false, ◌*◌, ◌/◌, ◌≤◌, ◌<◌, length};
-ghost use Rattle.finder.specs.Rows.{FlagSet, NextFlag};
+ghost use Rattle.finder.specs.Rows.{FlagSet, NextLine};
 
 use sets::{first_from, with, without};
 
@@ -22,19 +22,19 @@ pub(crate) fn lower(flags: &mut [u64], l: usize)
     flags[i] = without(flags[i], l % 64);
 }
 
-// The first of the lines that has a flag, from `start` on; a number past them if none has. It passes over 64 lines at once.
-pub(crate) fn next_flag(flags: &[u64], start: usize, lines: usize) -> usize
+// The first of the lines that has a flag, from `start` on. It passes over 64 lines at once.
+pub(crate) fn next_flag(flags: &[u64], start: usize, lines: usize) -> Option<usize>
     requires { (lines ≤ 64 * length flags.now) × (lines ≤ 1024) }
-    ensures { NextFlag flags.now start lines result }
+    ensures { NextLine flags.now start lines result }
 {
-    let mut l = start;
-    while l < lines {
-        let i = l / 64;
-        let k = first_from(flags[i], l % 64);
+    let mut from = start % 64;
+    for i in start / 64..lines.div_ceil(64) {
+        let k = first_from(flags[i], from);
         if k < 64 {
-            return 64 * i + k;
+            let l = 64 * i + k;
+            return if l < lines { Some(l) } else { None };
         }
-        l = 64 * i + 64;
+        from = 0;
     }
-    l
+    None
 }

@@ -6,7 +6,8 @@ ghost use Rattle.rule.specs.Nodes.{table_in};
 ghost use Rattle.finder.specs.Rows.{lines_found, presents_asked, Asked, LargestAt};
 
 use crate::rows::load;
-use rule::answer::Answer;
+use rule::answer::{Question, Refusal};
+use rule::asking::ask_each;
 use script::instruction::decode;
 use script::line::is_present;
 use sets::has;
@@ -24,19 +25,13 @@ fn known_at(rule: &[u64], code: &[u32], notes: &[u64], l: usize) -> bool
     }
 }
 
-pub(crate) fn ask_known(rule: &[u64], code: &[u32], notes: &[u64]) -> Answer
+pub(crate) fn ask_known(rule: &[u64], code: &[u32], notes: &[u64]) -> Result<(), Refusal>
     requires { Asked rule.now code.now × LargestAt rule.now code.now notes.now × (7 * length code.now ≤ length notes.now) }
     ensures { answer_of result ≡ presents_asked rule.now code.now }
 {
-    let mut l = 0;
-    while l < code.len() {
-        if !known_at(rule, code, notes, l) {
-            return Answer::Refused {
-                question: 19,
-                place: l,
-            };
-        }
-        l += 1;
-    }
-    Answer::Passed
+    ask_each(
+        Question::PresentLost,
+        code.len(),
+        |l| known_at(rule, code, notes, l),
+    )
 }

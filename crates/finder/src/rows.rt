@@ -43,8 +43,8 @@ pub(crate) fn cut(notes: &mut [u64], flags: &mut [u64], m: usize, g: Facts) -> b
     let i = 7 * m;
     let words = [g.t, g.f, g.a, g.b, g.m, g.w, g.c];
     let mut changed = false;
-    for j in 0..7 {
-        changed = meet_at(notes, i + j, words[j]) | changed;
+    for (j, word) in words.iter().enumerate() {
+        changed = meet_at(notes, i + j, *word) | changed;
     }
     if changed {
         raise(flags, m);
@@ -60,7 +60,5 @@ pub(crate) fn put(notes: &mut [u64], l: usize, x: Facts)
 {
     let i = 7 * l;
     let words = [x.t, x.f, x.a, x.b, x.m, x.w, x.c];
-    for j in 0..7 {
-        notes[i + j] = words[j];
-    }
+    notes[i..i + 7].copy_from_slice(&words);
 }

@@ -1,12 +1,11 @@
 // The search for the largest notes: every line starts with all that belongs, line 0 with the first facts; a line pushed cuts those
 // that follow it to what it passes on, and a line whose notes changed is pushed again.
-ghost use Rattle.std.specs.Prelude.{◌≡◌, cond, true, ◌<◌, length};
-ghost use Rattle.std.proofs.Math.Option.{none, some};
+ghost use Rattle.std.specs.Prelude.{◌≡◌, true, IfSome, ◌<◌, length};
 ghost use Rattle.spec.specs.Script.{bare_code, instruction_read, names_allowed};
 ghost use Rattle.spec.specs.Facts.{close, pass};
 ghost use Rattle.rule.specs.Nodes.{table_in, RulePasses};
 ghost use Rattle.facts.specs.FactSets.{facts_of};
-ghost use Rattle.finder.specs.Rows.{HasLine, Room, Asked, WayDone, Search, Pushed, Swept, Settled, LargestAt};
+ghost use Rattle.finder.specs.Rows.{HasLine, Room, Asked, way_to, WayDone, Search, Pushed, Swept, Settled, LargestAt};
 
 use crate::flags::{lower, next_flag, raise};
 use crate::rows::{cut, load, put};
@@ -17,27 +16,26 @@ use facts::belonging::belonging;
 use script::instruction::decode;
 use script::line::{goes_on, has_target};
 
-// One way out of a line with the closed facts x: line m, if it follows, keeps what is passed on. Whether some of its notes went.
+// One way out of a line with the closed facts x: the line that follows, if one does, keeps what is passed on. Whether some of its notes
+// went.
 fn push_to(
     rule: &[u64],
     word: u32,
     taken: bool,
-    follows: bool,
-    m: usize,
+    follower: Option<usize>,
     x: Facts,
     notes: &mut [u64],
     flags: &mut [u64],
 ) -> bool
     requires { RulePasses rule.now × (names_allowed (table_in rule.now) (instruction_read word) ≡ true)
-        × (close (table_in rule.now) (facts_of x) ≡ facts_of x) × (follows ≡ true → HasLine m notes.old flags.old) }
-    ensures { WayDone notes.old flags.old (cond follows (some m) none)
+        × (close (table_in rule.now) (facts_of x) ≡ facts_of x) × IfSome follower (λ m. HasLine m notes.old flags.old) }
+    ensures { WayDone notes.old flags.old (way_to follower)
         (close (table_in rule.now) (pass (table_in rule.now) (instruction_read word) taken (facts_of x)))
         notes.new flags.new result }
 {
-    if follows {
-        cut(notes, flags, m, pass_on(rule, word, taken, x))
-    } else {
-        false
+    match follower {
+        Some(m) => cut(notes, flags, m, pass_on(rule, word, taken, x)),
+        None => false,
     }
 }
 
@@ -51,8 +49,10 @@ fn push(rule: &[u64], code: &[u32], notes: &mut [u64], flags: &mut [u64], l: usi
     let i = decode(word);
     let x = load(notes, l);
     lower(flags, l);
-    let a = push_to(rule, word, true, has_target(i), i.target, x, notes, flags);
-    let b = push_to(rule, word, false, goes_on(i), l + 1, x, notes, flags);
+    let target = has_target(i).then_some(i.target);
+    let next = goes_on(i).then_some(l + 1);
+    let a = push_to(rule, word, true, target, x, notes, flags);
+    let b = push_to(rule, word, false, next, x, notes, flags);
     a | b
 }
 
@@ -63,10 +63,11 @@ fn sweep(rule: &[u64], code: &[u32], notes: &mut [u64], flags: &mut [u64]) -> bo
     ensures { Swept rule.now code.now notes.old flags.old notes.new flags.new result (length code.now) }
 {
     let mut again = false;
-    let mut l = next_flag(flags, 0, code.len());
-    while l < code.len() {
+    let mut next = next_flag(flags, 0, code.len());
+    // No iterator over the flags: a push changes them.
+    while let Some(l) = next {
         again = push(rule, code, notes, flags, l) | again;
-        l = next_flag(flags, l + 1, code.len());
+        next = next_flag(flags, l + 1, code.len());
     }
     again
 }
@@ -77,10 +78,8 @@ fn settle(rule: &[u64], code: &[u32], notes: &mut [u64], flags: &mut [u64])
         × Search (table_in rule.now) (bare_code code.now) notes.old flags.old }
     ensures { Settled rule.now code.now notes.old flags.old notes.new flags.new }
 {
-    let mut again = true;
-    while again {
-        again = sweep(rule, code, notes, flags);
-    }
+    // No index is counted: how many sweeps there are is known only when one changes nothing.
+    while sweep(rule, code, notes, flags) {}
 }
 
 // Every line has all that belongs and a flag, and line 0 the first facts.

@@ -1,12 +1,12 @@
 // The guard for C and Rust to call: every entry point, on numbers and slices. include/guard.h says the same to a reader of C. Here are the
-// functions over document 01's stored form; crate guard64 has those over the second, and the moves between them, crate guard_four a run of four
-// stations.
+// functions over words of either stored form, in moving.rt the moves between them; crate guard_four has a run of four stations, and the crates
+// guard_c and guard64_c export the functions of each form to C.
 // Each function hands back 0, or the number of the question that refused, or 99 where the lent words are fewer than it needs, and
 // writes its other numbers into the first of the lent words; later words stay. With 99 nothing is written anywhere.
 #![tactic(auto)]
 
 ghost use Rattle.std.specs.Prelude.{◌≡◌, cond, [], ◌++◌, length, drop};
-ghost use Rattle.spec.specs.Rule.{form32, check_rule};
+ghost use Rattle.spec.specs.Rule.{check_rule};
 ghost use Rattle.spec.specs.Judging.{judging};
 ghost use Rattle.spec.specs.Script.{check_bare};
 ghost use Rattle.spec.specs.Check.{check_script};
@@ -16,6 +16,7 @@ ghost use Rattle.spec.specs.Weaver.{weaving, output_after};
 ghost use Rattle.largest.specs.Largest.{found_answer, found_output};
 ghost use Rattle.intervals.specs.Limits.{limiting, limits_output};
 ghost use Rattle.grammar.specs.Texting.{texting, count_of, output_of};
+ghost use Rattle.rule.specs.Nodes.{form_by};
 ghost use Rattle.numbers.specs.Numbers.{room_for, too_short, with_words, result_for, checked_words, count_words, verdict_words, report_words};
 ghost use Rattle.numbers.specs.States.{state_length, state_words, is_stated, step_result, stepped};
 
@@ -24,16 +25,20 @@ use finder::find_facts;
 use machine::{Machine, run};
 use numbers::notes::{note_count, note_place, note_report, note_verdict};
 use numbers::states::{put_machine, read_machine, state_fits};
+use rule::stored::Word;
 use rule::{check_rule, verdict};
 use script::check_bare;
+use text::output::Output;
 use text::read_text;
 use weaver::weave;
 
+pub mod moving;
+
 // A rule typed as text: questions 16, 17, 18 and 13. Two words: place, nodes. The nodes go to `out`, a word each.
-pub fn guard_text(text: &[u8], out: &mut [u32], numbers: &mut [u64]) -> u32
-    ensures result { result ≡ result_for 2 numbers.old (count_of (texting form32 (length out.old) text.now)) }
-    ensures words { numbers.new ≡ with_words 2 (count_words (count_of (texting form32 (length out.old) text.now))) numbers.old }
-    ensures output { out.new ≡ cond (room_for 2 numbers.old) (output_of (texting form32 (length out.old) text.now) out.old) out.old }
+pub fn guard_text<W: Output>(text: &[u8], out: &mut [W], numbers: &mut [u64]) -> u32
+    ensures result { result ≡ result_for 2 numbers.old (count_of (texting (form_by W.IS_WIDE) (length (W.numbers out.old)) text.now)) }
+    ensures words { numbers.new ≡ with_words 2 (count_words (count_of (texting (form_by W.IS_WIDE) (length (W.numbers out.old)) text.now))) numbers.old }
+    ensures output { W.numbers out.new ≡ cond (room_for 2 numbers.old) (output_of (texting (form_by W.IS_WIDE) (length (W.numbers out.old)) text.now) (W.numbers out.old)) (W.numbers out.old) }
 {
     if numbers.len() < 2 {
         return 99;
@@ -42,9 +47,9 @@ pub fn guard_text(text: &[u8], out: &mut [u32], numbers: &mut [u64]) -> u32
 }
 
 // A rule: questions 1 to 4. One word: place.
-pub fn guard_rule(rule: &[u32], numbers: &mut [u64]) -> u32
-    ensures result { result ≡ result_for 1 numbers.old (check_rule form32 rule.now) }
-    ensures words { numbers.new ≡ with_words 1 (checked_words (check_rule form32 rule.now)) numbers.old }
+pub fn guard_rule<W: Word>(rule: &[W], numbers: &mut [u64]) -> u32
+    ensures result { result ≡ result_for 1 numbers.old (check_rule (form_by W.IS_WIDE) (W.numbers rule.now)) }
+    ensures words { numbers.new ≡ with_words 1 (checked_words (check_rule (form_by W.IS_WIDE) (W.numbers rule.now))) numbers.old }
 {
     if numbers.len() < 1 {
         return 99;
@@ -53,9 +58,9 @@ pub fn guard_rule(rule: &[u32], numbers: &mut [u64]) -> u32
 }
 
 // A bare script for a rule: questions 1 to 7. One word: place.
-pub fn guard_bare(rule: &[u32], script: &[u32], numbers: &mut [u64]) -> u32
-    ensures result { result ≡ result_for 1 numbers.old (check_bare form32 rule.now script.now) }
-    ensures words { numbers.new ≡ with_words 1 (checked_words (check_bare form32 rule.now script.now)) numbers.old }
+pub fn guard_bare<W: Word>(rule: &[W], script: &[u32], numbers: &mut [u64]) -> u32
+    ensures result { result ≡ result_for 1 numbers.old (check_bare (form_by W.IS_WIDE) (W.numbers rule.now) script.now) }
+    ensures words { numbers.new ≡ with_words 1 (checked_words (check_bare (form_by W.IS_WIDE) (W.numbers rule.now) script.now)) numbers.old }
 {
     if numbers.len() < 1 {
         return 99;
@@ -64,9 +69,9 @@ pub fn guard_bare(rule: &[u32], script: &[u32], numbers: &mut [u64]) -> u32
 }
 
 // An annotated script for a rule: questions 1 to 11. One word: place.
-pub fn guard_script(rule: &[u32], script: &[u32], numbers: &mut [u64]) -> u32
-    ensures result { result ≡ result_for 1 numbers.old (check_script form32 rule.now script.now) }
-    ensures words { numbers.new ≡ with_words 1 (checked_words (check_script form32 rule.now script.now)) numbers.old }
+pub fn guard_script<W: Word>(rule: &[W], script: &[W], numbers: &mut [u64]) -> u32
+    ensures result { result ≡ result_for 1 numbers.old (check_script (form_by W.IS_WIDE) (W.numbers rule.now) (W.numbers script.now)) }
+    ensures words { numbers.new ≡ with_words 1 (checked_words (check_script (form_by W.IS_WIDE) (W.numbers rule.now) (W.numbers script.now))) numbers.old }
 {
     if numbers.len() < 1 {
         return 99;
@@ -75,10 +80,10 @@ pub fn guard_script(rule: &[u32], script: &[u32], numbers: &mut [u64]) -> u32
 }
 
 // The woven script for a rule: questions 1 to 7, 12 and 13 first. Two words: place, lines. The lines go to `out`, eight words each.
-pub fn guard_weave(rule: &[u32], bare: &[u32], out: &mut [u32], numbers: &mut [u64]) -> u32
-    ensures result { result ≡ result_for 2 numbers.old (weaving form32 rule.now bare.now out.old) }
-    ensures words { numbers.new ≡ with_words 2 (count_words (weaving form32 rule.now bare.now out.old)) numbers.old }
-    ensures output { out.new ≡ cond (room_for 2 numbers.old) (output_after form32 rule.now bare.now out.old) out.old }
+pub fn guard_weave<W: Word>(rule: &[W], bare: &[u32], out: &mut [W], numbers: &mut [u64]) -> u32
+    ensures result { result ≡ result_for 2 numbers.old (weaving (form_by W.IS_WIDE) (W.numbers rule.now) bare.now (W.numbers out.old)) }
+    ensures words { numbers.new ≡ with_words 2 (count_words (weaving (form_by W.IS_WIDE) (W.numbers rule.now) bare.now (W.numbers out.old))) numbers.old }
+    ensures output { W.numbers out.new ≡ cond (room_for 2 numbers.old) (output_after (form_by W.IS_WIDE) (W.numbers rule.now) bare.now (W.numbers out.old)) (W.numbers out.old) }
 {
     if numbers.len() < 2 {
         return 99;
@@ -88,10 +93,15 @@ pub fn guard_weave(rule: &[u32], bare: &[u32], out: &mut [u32], numbers: &mut [u
 
 // The largest facts for instructions without: questions 1 to 7, 19 and 13 first. Two words: place, facts. The annotated lines go to
 // `out`, eight words each.
-pub fn guard_facts(rule: &[u32], instructions: &[u32], out: &mut [u32], numbers: &mut [u64]) -> u32
-    ensures result { result ≡ result_for 2 numbers.old (found_answer form32 rule.now instructions.now out.old) }
-    ensures words { numbers.new ≡ with_words 2 (count_words (found_answer form32 rule.now instructions.now out.old)) numbers.old }
-    ensures output { out.new ≡ cond (room_for 2 numbers.old) (found_output form32 rule.now instructions.now out.old) out.old }
+pub fn guard_facts<W: Word>(
+    rule: &[W],
+    instructions: &[u32],
+    out: &mut [W],
+    numbers: &mut [u64],
+) -> u32
+    ensures result { result ≡ result_for 2 numbers.old (found_answer (form_by W.IS_WIDE) (W.numbers rule.now) instructions.now (W.numbers out.old)) }
+    ensures words { numbers.new ≡ with_words 2 (count_words (found_answer (form_by W.IS_WIDE) (W.numbers rule.now) instructions.now (W.numbers out.old))) numbers.old }
+    ensures output { W.numbers out.new ≡ cond (room_for 2 numbers.old) (found_output (form_by W.IS_WIDE) (W.numbers rule.now) instructions.now (W.numbers out.old)) (W.numbers out.old) }
 {
     if numbers.len() < 2 {
         return 99;
@@ -101,9 +111,9 @@ pub fn guard_facts(rule: &[u32], instructions: &[u32], out: &mut [u32], numbers:
 
 // The verdict on a history: questions 1 to 4, 14 and 15 first. Four words: place; 1 where the rule is false somewhere; the lowest
 // such index; the number of states where there is none.
-pub fn guard_judge(rule: &[u32], history: &[u16], numbers: &mut [u64]) -> u32
-    ensures result { result ≡ result_for 4 numbers.old (judging form32 rule.now history.now) }
-    ensures words { numbers.new ≡ with_words 4 (verdict_words (judging form32 rule.now history.now)) numbers.old }
+pub fn guard_judge<W: Word>(rule: &[W], history: &[u16], numbers: &mut [u64]) -> u32
+    ensures result { result ≡ result_for 4 numbers.old (judging (form_by W.IS_WIDE) (W.numbers rule.now) history.now) }
+    ensures words { numbers.new ≡ with_words 4 (verdict_words (judging (form_by W.IS_WIDE) (W.numbers rule.now) history.now)) numbers.old }
 {
     if numbers.len() < 4 {
         return 99;
@@ -113,16 +123,16 @@ pub fn guard_judge(rule: &[u32], history: &[u16], numbers: &mut [u64]) -> u32
 
 // The rule on a history whose registers are known only within limits: questions 1 to 4; 14 of the lows, then the highs; 22; 13; 15 of the
 // lows, then the highs; 23. Two words: place, indices. The answers go to `out`, a byte an index: 0 false, 1 true, 2 open.
-pub fn guard_limits(
-    rule: &[u32],
+pub fn guard_limits<W: Word>(
+    rule: &[W],
     lows: &[u16],
     highs: &[u16],
     out: &mut [u8],
     numbers: &mut [u64],
 ) -> u32
-    ensures result { result ≡ result_for 2 numbers.old (limiting form32 rule.now lows.now highs.now out.old) }
-    ensures words { numbers.new ≡ with_words 2 (count_words (limiting form32 rule.now lows.now highs.now out.old)) numbers.old }
-    ensures output { out.new ≡ cond (room_for 2 numbers.old) (limits_output form32 rule.now lows.now highs.now out.old) out.old }
+    ensures result { result ≡ result_for 2 numbers.old (limiting (form_by W.IS_WIDE) (W.numbers rule.now) lows.now highs.now out.old) }
+    ensures words { numbers.new ≡ with_words 2 (count_words (limiting (form_by W.IS_WIDE) (W.numbers rule.now) lows.now highs.now out.old)) numbers.old }
+    ensures output { out.new ≡ cond (room_for 2 numbers.old) (limits_output (form_by W.IS_WIDE) (W.numbers rule.now) lows.now highs.now out.old) out.old }
 {
     if numbers.len() < 2 {
         return 99;
@@ -132,17 +142,17 @@ pub fn guard_limits(
 
 // A run: questions 1 to 11, and 15 of the inputs, then steps from a fresh start. 22 words: place, stop, line, steps, presentations,
 // inputs read, 16 registers.
-pub fn guard_run(
-    rule: &[u32],
-    script: &[u32],
+pub fn guard_run<W: Word>(
+    rule: &[W],
+    script: &[W],
     inputs: &[u16],
     budget: u64,
     history: &mut [u16],
     numbers: &mut [u64],
 ) -> u32
-    ensures result { result ≡ result_for 22 numbers.old (running form32 rule.now script.now inputs.now budget history.old) }
-    ensures words { numbers.new ≡ with_words 22 (report_words (report_of (running form32 rule.now script.now inputs.now budget history.old))) numbers.old }
-    ensures left { history.new ≡ cond (room_for 22 numbers.old) (history_after (running form32 rule.now script.now inputs.now budget history.old) history.old) history.old }
+    ensures result { result ≡ result_for 22 numbers.old (running (form_by W.IS_WIDE) (W.numbers rule.now) (W.numbers script.now) inputs.now budget history.old) }
+    ensures words { numbers.new ≡ with_words 22 (report_words (report_of (running (form_by W.IS_WIDE) (W.numbers rule.now) (W.numbers script.now) inputs.now budget history.old))) numbers.old }
+    ensures left { history.new ≡ cond (room_for 22 numbers.old) (history_after (running (form_by W.IS_WIDE) (W.numbers rule.now) (W.numbers script.now) inputs.now budget history.old) history.old) history.old }
 {
     if numbers.len() < 22 {
         return 99;
@@ -152,9 +162,9 @@ pub fn guard_run(
 
 // The machine at a fresh start. 25 words: line, presentations, inputs read, kept bits, work bits, 16 registers, ready, priors, next priors,
 // the registers that the rule reads.
-pub fn guard_fresh(rule: &[u32], state: &mut [u64]) -> u32
+pub fn guard_fresh<W: Word>(rule: &[W], state: &mut [u64]) -> u32
     ensures result { result ≡ cond (room_for state_length state.old) 0 too_short }
-    ensures words { state.new ≡ with_words state_length (state_words (fresh_state_of form32 rule.now [])) state.old }
+    ensures words { state.new ≡ with_words state_length (state_words (fresh_state_of (form_by W.IS_WIDE) (W.numbers rule.now) [])) state.old }
 {
     if state.len() < 25 {
         return 99;
@@ -165,16 +175,16 @@ pub fn guard_fresh(rule: &[u32], state: &mut [u64]) -> u32
 
 // One step from the machine in `state` to the next, in its place. A register above 65,535, or ready above 1, leaves everything as it
 // was: 98.
-pub fn guard_step(
-    rule: &[u32],
-    script: &[u32],
+pub fn guard_step<W: Word>(
+    rule: &[W],
+    script: &[W],
     inputs: &[u16],
     history: &mut [u16],
     state: &mut [u64],
 ) -> u32
     ensures result { result ≡ step_result state.old }
-    ensures words { state.new ≡ cond (is_stated state.old) (state_words (stepped form32 rule.now script.now inputs.now state.old history.old) ++ drop state_length state.old) state.old }
-    ensures left { history.new ≡ cond (is_stated state.old) (stepped form32 rule.now script.now inputs.now state.old history.old).machine.history history.old }
+    ensures words { state.new ≡ cond (is_stated state.old) (state_words (stepped (form_by W.IS_WIDE) (W.numbers rule.now) (W.numbers script.now) inputs.now state.old history.old) ++ drop state_length state.old) state.old }
+    ensures left { history.new ≡ cond (is_stated state.old) (stepped (form_by W.IS_WIDE) (W.numbers rule.now) (W.numbers script.now) inputs.now state.old history.old).machine.history history.old }
 {
     if state.len() < 25 {
         return 99;

@@ -1,4 +1,4 @@
-// The functions of crate guard64 for C, in a static library: each calls the one of its name there, with the same clauses.
+// The functions of crate guard over words of the second form for C, in a static library: each calls the one of its name there without the 64, with the same clauses.
 // include/guard.h says the same to a reader of C.
 #![tactic(auto)]
 
@@ -24,7 +24,7 @@ pub extern "C" fn guard_text64(text: &[u8], out: &mut [u64], numbers: &mut [u64]
     ensures words { numbers.new ≡ with_words 2 (count_words (count_of (texting form64 (length out.old) text.now))) numbers.old }
     ensures output { out.new ≡ cond (room_for 2 numbers.old) (output_of (texting form64 (length out.old) text.now) out.old) out.old }
 {
-    guard64::guard_text64(text, out, numbers)
+    guard::guard_text(text, out, numbers)
 }
 
 #[unsafe(no_mangle)]
@@ -32,7 +32,7 @@ pub extern "C" fn guard_rule64(rule: &[u64], numbers: &mut [u64]) -> u32
     ensures result { result ≡ result_for 1 numbers.old (check_rule form64 rule.now) }
     ensures words { numbers.new ≡ with_words 1 (checked_words (check_rule form64 rule.now)) numbers.old }
 {
-    guard64::guard_rule64(rule, numbers)
+    guard::guard_rule(rule, numbers)
 }
 
 #[unsafe(no_mangle)]
@@ -40,7 +40,7 @@ pub extern "C" fn guard_bare64(rule: &[u64], script: &[u32], numbers: &mut [u64]
     ensures result { result ≡ result_for 1 numbers.old (check_bare form64 rule.now script.now) }
     ensures words { numbers.new ≡ with_words 1 (checked_words (check_bare form64 rule.now script.now)) numbers.old }
 {
-    guard64::guard_bare64(rule, script, numbers)
+    guard::guard_bare(rule, script, numbers)
 }
 
 #[unsafe(no_mangle)]
@@ -48,7 +48,7 @@ pub extern "C" fn guard_script64(rule: &[u64], script: &[u64], numbers: &mut [u6
     ensures result { result ≡ result_for 1 numbers.old (check_script form64 rule.now script.now) }
     ensures words { numbers.new ≡ with_words 1 (checked_words (check_script form64 rule.now script.now)) numbers.old }
 {
-    guard64::guard_script64(rule, script, numbers)
+    guard::guard_script(rule, script, numbers)
 }
 
 #[unsafe(no_mangle)]
@@ -62,7 +62,7 @@ pub extern "C" fn guard_weave64(
     ensures words { numbers.new ≡ with_words 2 (count_words (weaving form64 rule.now bare.now out.old)) numbers.old }
     ensures output { out.new ≡ cond (room_for 2 numbers.old) (output_after form64 rule.now bare.now out.old) out.old }
 {
-    guard64::guard_weave64(rule, bare, out, numbers)
+    guard::guard_weave(rule, bare, out, numbers)
 }
 
 #[unsafe(no_mangle)]
@@ -76,7 +76,7 @@ pub extern "C" fn guard_facts64(
     ensures words { numbers.new ≡ with_words 2 (count_words (found_answer form64 rule.now instructions.now out.old)) numbers.old }
     ensures output { out.new ≡ cond (room_for 2 numbers.old) (found_output form64 rule.now instructions.now out.old) out.old }
 {
-    guard64::guard_facts64(rule, instructions, out, numbers)
+    guard::guard_facts(rule, instructions, out, numbers)
 }
 
 #[unsafe(no_mangle)]
@@ -84,7 +84,7 @@ pub extern "C" fn guard_judge64(rule: &[u64], history: &[u16], numbers: &mut [u6
     ensures result { result ≡ result_for 4 numbers.old (judging form64 rule.now history.now) }
     ensures words { numbers.new ≡ with_words 4 (verdict_words (judging form64 rule.now history.now)) numbers.old }
 {
-    guard64::guard_judge64(rule, history, numbers)
+    guard::guard_judge(rule, history, numbers)
 }
 
 #[unsafe(no_mangle)]
@@ -99,7 +99,7 @@ pub extern "C" fn guard_limits64(
     ensures words { numbers.new ≡ with_words 2 (count_words (limiting form64 rule.now lows.now highs.now out.old)) numbers.old }
     ensures output { out.new ≡ cond (room_for 2 numbers.old) (limits_output form64 rule.now lows.now highs.now out.old) out.old }
 {
-    guard64::guard_limits64(rule, lows, highs, out, numbers)
+    guard::guard_limits(rule, lows, highs, out, numbers)
 }
 
 #[unsafe(no_mangle)]
@@ -115,7 +115,7 @@ pub extern "C" fn guard_run64(
     ensures words { numbers.new ≡ with_words 22 (report_words (report_of (running form64 rule.now script.now inputs.now budget history.old))) numbers.old }
     ensures left { history.new ≡ cond (room_for 22 numbers.old) (history_after (running form64 rule.now script.now inputs.now budget history.old) history.old) history.old }
 {
-    guard64::guard_run64(rule, script, inputs, budget, history, numbers)
+    guard::guard_run(rule, script, inputs, budget, history, numbers)
 }
 
 #[unsafe(no_mangle)]
@@ -123,7 +123,7 @@ pub extern "C" fn guard_fresh64(rule: &[u64], state: &mut [u64]) -> u32
     ensures result { result ≡ cond (room_for state_length state.old) 0 too_short }
     ensures words { state.new ≡ with_words state_length (state_words (fresh_state_of form64 rule.now [])) state.old }
 {
-    guard64::guard_fresh64(rule, state)
+    guard::guard_fresh(rule, state)
 }
 
 #[unsafe(no_mangle)]
@@ -138,5 +138,5 @@ pub extern "C" fn guard_step64(
     ensures words { state.new ≡ cond (is_stated state.old) (state_words (stepped form64 rule.now script.now inputs.now state.old history.old) ++ drop state_length state.old) state.old }
     ensures left { history.new ≡ cond (is_stated state.old) (stepped form64 rule.now script.now inputs.now state.old history.old).machine.history history.old }
 {
-    guard64::guard_step64(rule, script, inputs, history, state)
+    guard::guard_step(rule, script, inputs, history, state)
 }

@@ -10,7 +10,7 @@ pub extern "C" fn guard_rule_up(rule: &[u32], out: &mut [u64], numbers: &mut [u6
     ensures words { numbers.new ≡ with_words 2 (count_words (rule_up rule.now out.old)) numbers.old }
     ensures output { out.new ≡ cond (room_for 2 numbers.old) (rule_up_output rule.now out.old) out.old }
 {
-    guard64::moving::guard_rule_up(rule, out, numbers)
+    guard::moving::guard_rule_up(rule, out, numbers)
 }
 
 // And back: questions 1 to 4, 20 and 13.
@@ -20,7 +20,7 @@ pub extern "C" fn guard_rule_back(rule: &[u64], out: &mut [u32], numbers: &mut [
     ensures words { numbers.new ≡ with_words 2 (count_words (rule_back rule.now out.old)) numbers.old }
     ensures output { out.new ≡ cond (room_for 2 numbers.old) (rule_back_output rule.now out.old) out.old }
 {
-    guard64::moving::guard_rule_back(rule, out, numbers)
+    guard::moving::guard_rule_back(rule, out, numbers)
 }
 
 // An annotated script to the second form, with its rule in the old: questions 1 to 8, and 13.
@@ -35,7 +35,7 @@ pub extern "C" fn guard_script_up(
     ensures words { numbers.new ≡ with_words 2 (count_words (script_up rule.now script.now out.old)) numbers.old }
     ensures output { out.new ≡ cond (room_for 2 numbers.old) (script_up_output rule.now script.now out.old) out.old }
 {
-    guard64::moving::guard_script_up(rule, script, out, numbers)
+    guard::moving::guard_script_up(rule, script, out, numbers)
 }
 
 // And back, with its rule in the second form: questions 1 to 4, 20, 5 to 8, and 13.
@@ -50,5 +50,5 @@ pub extern "C" fn guard_script_back(
     ensures words { numbers.new ≡ with_words 2 (count_words (script_back rule.now script.now out.old)) numbers.old }
     ensures output { out.new ≡ cond (room_for 2 numbers.old) (script_back_output rule.now script.now out.old) out.old }
 {
-    guard64::moving::guard_script_back(rule, script, out, numbers)
+    guard::moving::guard_script_back(rule, script, out, numbers)
 }

@@ -15,6 +15,7 @@ pub fn read_full<R: Read>(from: &mut R, bytes: &mut [u8]) -> io::Result<usize>
     ensures all { IfOk result (λ n. n < length bytes.new → IsAtEnd (R.remaining from.new)) }
 {
     let mut n = 0;
+    // A step goes over as much as a read took: no index is counted.
     while n < bytes.len() {
         let got = from.read(&mut bytes[n..])?;
         if got == 0 {

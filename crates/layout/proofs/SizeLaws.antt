@@ -2,7 +2,7 @@
 --     SizedTo, own_at, size_at, sized_next   a table of sizes as it is filled: the next node's size, from those kept for lower nodes
 --     decide_few                         deciding a node takes no more lines than a block has: it is part of one
 --     counted_to, counted_none, counted_next, counted_all     a block's lines, node by node
---     nodes_few, block_few, node_few, own_few     an accepted rule has at most 64 nodes, so a block and a decision at most 961 lines
+--     nodes_few, block_few, node_few, own_few, last_few     an accepted rule has at most 64 nodes, so a block and a decision at most 961 lines
 --     since_lines, weak_lines, shared_lines, no_lines        what a node accounts for, by what it is
 -- Assumes nothing.
 use mathlib.Core.Path.{◌≡◌, refl, sym, ap, ap₂, ◌∙◌}
@@ -270,6 +270,13 @@ module _ (rule : List ℕ) (accepted : RulePasses rule) where
       go (implies_node l r) o = let (a, b) = both_lower k l r o in omega (arith, node_few l (omega arith), node_few r (omega arith))
       go (since_node l r) o = omega arith
       go (weak_previous_node l) o = omega arith
+
+-- deciding the last node takes no more either
+pub last_few : (rule sizes : List ℕ) → Sized rule sizes → get_or sizes (length rule - 1) 0 ≤ 961
+last_few rule sizes sized =
+    let some = (rule_out form_in rule sized.0).some_node in
+    let last : length rule - 1 < length rule = omega arith in
+    omega (arith, sized.1 (length rule - 1) last, node_few rule sized.0 (length rule - 1) last)
 
 -- ---- what a node accounts for
 

@@ -21,21 +21,8 @@ pub fn node_size(sizes: &[u16], x: Node) -> u16
 {
     match x {
         Node::False => 1,
-        Node::Equal {
-            register: _,
-            constant: _,
-        } => 2,
-        Node::Below {
-            register: _,
-            constant: _,
-        } => 2,
         Node::Implies { left, right } => sizes[left] + sizes[right],
-        Node::Since { left: _, right: _ } => 2,
-        Node::WeakPrevious { left: _ } => 2,
-        Node::EqualRegisters {
-            register: _,
-            other: _,
-        } => 2,
+        _ => 2,
     }
 }
 
@@ -55,10 +42,8 @@ fn fill_sizes(rule: &[u64], shared: u64, sizes: &mut [u16])
     requires { RulePasses rule.now × Shared rule.now shared × (64 ≤ length sizes.old) }
     ensures { Sized rule.now sizes.new }
 {
-    let mut k = 0;
-    while k < rule.len() {
-        sizes[k] = mention_size(sizes, shared, k, read_node(rule[k]));
-        k += 1;
+    for (k, &word) in rule.iter().enumerate() {
+        sizes[k] = mention_size(sizes, shared, k, read_node(word));
     }
 }
 
@@ -95,10 +80,8 @@ pub fn block_size(rule: &[u64], sizes: &[u16; 64], shared: u64) -> usize
     ensures { result ≡ block_size (table_in rule.now) }
 {
     let mut lines: usize = 0;
-    let mut k = 0;
-    while k < rule.len() {
+    for k in 0..rule.len() {
         lines += node_lines(rule, sizes, shared, k);
-        k += 1;
     }
     lines + sizes[rule.len() - 1] as usize + 1
 }
@@ -116,10 +99,8 @@ fn start_after(bare: &[u32], size: usize, from: usize, start: usize, to: usize) 
     ensures { (t : Table) → size ≡ block_size t → start ≡ start_of t (bare_code bare.now) from → result ≡ start_of t (bare_code bare.now) to }
 {
     let mut n = start;
-    let mut l = from;
-    while l < to {
-        n += line_size(bare[l], size);
-        l += 1;
+    for &word in &bare[from..to] {
+        n += line_size(word, size);
     }
     n
 }
@@ -137,14 +118,12 @@ fn fill_starts(rule: &[u64], bare: &[u32], size: usize, starts: &mut [u16])
     ensures { Started rule.now bare.now starts.new size }
 {
     let mut n = 0;
-    let mut l = 0;
-    while l < bare.len() {
+    for (l, &word) in bare.iter().enumerate() {
         let marked = l % 16 == 0;
         if marked {
             starts[l / 16] = n as u16;
         }
-        n += line_size(bare[l], size);
-        l += 1;
+        n += line_size(word, size);
     }
 }
 

@@ -2,14 +2,12 @@
 // high count, highs, the length of the lent output. A lent output has 9 everywhere, which is no answer.
 #![tactic(auto)]
 
-ghost use Rattle.std.specs.Prelude.{◌<◌, ◌≤◌, IfOk};
+ghost use Rattle.std.specs.Prelude.{◌<◌, ◌≤◌, IfOk, length};
 
-use limits::{judge, judge64};
-use requests::loading::{
-    first_longs, first_numbers, first_words, load_either, load_numbers, size_of,
-};
-use requests::printing::{print_counted, print_number, say};
-use rule::answer::Counted;
+use limits::judge;
+use requests::loading::{load_numbers, load_words, size_of};
+use requests::printing::{print_counted, print_numbers};
+use rule::stored::Word;
 use std::io;
 use words::word_at;
 
@@ -21,74 +19,52 @@ fn count_at(s: &[u8], at: usize, most: usize) -> usize
     if most < n { 0 } else { n }
 }
 
-fn wide(b: u8) -> usize {
-    b as usize
-}
-
-// A name and bytes, on one line.
-fn print_bytes(rt: &impl Print, name: &[u8], bytes: &[u8]) -> io::Result<()> {
-    say(rt, name)?;
-    for b in bytes {
-        print_number(rt, wide(*b))?;
-    }
-    say(rt, b"\n")
-}
-
-// The entry points have a form each, so here it is chosen.
-fn judge_either(
-    is_wide: bool,
-    rule: &[u32],
-    rule_wide: &[u64],
-    lows: &[u16],
-    highs: &[u16],
-    out: &mut [u8],
-) -> Counted {
-    if is_wide {
-        return judge64(rule_wide, lows, highs, out);
-    }
-    judge(rule, lows, highs, out)
+// The numbers after their count, which is word `at`. Hands back how many there are.
+fn load_counted(s: &[u8], at: usize, out: &mut [u16; 1024]) -> usize
+    requires { at ≤ 100000 }
+    ensures { result ≤ 1024 }
+{
+    let count = count_at(s, at, 1024);
+    load_numbers(s, at + 1, count, out);
+    count
 }
 
 // The answer, and the lent output afterwards.
-fn answer_lent(
+fn answer_limits<W: Word>(
     rt: &impl Print,
-    is_wide: bool,
-    rule: &[u32],
-    rule_wide: &[u64],
+    rule: &[W],
     lows: &[u16],
     highs: &[u16],
     out: &mut [u8],
 ) -> io::Result<()> {
-    print_counted(
-        rt,
-        b"indices",
-        judge_either(is_wide, rule, rule_wide, lows, highs, out),
-    )?;
-    print_bytes(rt, b"bytes", out)
+    print_counted(rt, b"indices", judge(rule, lows, highs, out))?;
+    print_numbers(rt, b"bytes", out)
 }
 
-// An output of that many bytes is lent.
-fn answer_limits(
-    rt: &impl Print,
-    is_wide: bool,
-    rule: &[u32],
-    rule_wide: &[u64],
-    lows: &[u16],
-    highs: &[u16],
-    length: usize,
-) -> io::Result<()>
-    requires { length ≤ 256 }
+// The request that starts at word `at`, with a rule of this form, for which `space` is lent, and where the next one starts.
+fn request_in<W: Word>(rt: &impl Print, s: &[u8], at: usize, space: &mut [W]) -> io::Result<usize>
+    requires { (at < 16384) × (80 ≤ length space.old) }
+    ensures { IfOk result (λ next. at < next) }
 {
+    let nodes = count_at(s, at + 1, 80);
+    load_words(s, at + 2, nodes, space);
+    let lows_at = at + 2 + size_of(nodes, W::IS_WIDE);
+    let mut lows = [0u16; 1024];
+    let low_count = load_counted(s, lows_at, &mut lows);
+    let highs_at = lows_at + 1 + low_count;
+    let mut highs = [0u16; 1024];
+    let high_count = load_counted(s, highs_at, &mut highs);
+    let end = highs_at + 1 + high_count;
+    let length = count_at(s, end, 256);
     let mut out = [9u8; 256];
-    answer_lent(
+    answer_limits(
         rt,
-        is_wide,
-        rule,
-        rule_wide,
-        lows,
-        highs,
+        &space[..nodes],
+        &lows[..low_count],
+        &highs[..high_count],
         &mut out[..length],
-    )
+    )?;
+    Ok(end + 1)
 }
 
 // The request of this kind that starts at word `at`, and where the next one starts.
@@ -97,30 +73,9 @@ pub fn request_limits(rt: &impl Print, s: &[u8], kind: u32, at: usize) -> io::Re
     requires { at < 16384 }
     ensures { IfOk result (λ next. at < next) }
 {
-    let is_wide = kind == 30;
-    let nodes = count_at(s, at + 1, 80);
-    let mut rule = [0u32; 80];
-    let mut rule_wide = [0u64; 80];
-    load_either(s, at + 2, nodes, is_wide, &mut rule, &mut rule_wide);
-    let lows_at = at + 2 + size_of(nodes, is_wide);
-    let low_count = count_at(s, lows_at, 1024);
-    let mut lows = [0u16; 1024];
-    load_numbers(s, lows_at + 1, low_count, &mut lows);
-    let highs_at = lows_at + 1 + low_count;
-    let high_count = count_at(s, highs_at, 1024);
-    let mut highs = [0u16; 1024];
-    load_numbers(s, highs_at + 1, high_count, &mut highs);
-    let end = highs_at + 1 + high_count;
-    let length = count_at(s, end, 256);
-    let next = end + 1;
-    answer_limits(
-        rt,
-        is_wide,
-        first_words(&rule, nodes),
-        first_longs(&rule_wide, nodes),
-        first_numbers(&lows, low_count),
-        first_numbers(&highs, high_count),
-        length,
-    )?;
-    Ok(next)
+    if kind == 30 {
+        request_in(rt, s, at, &mut [0u64; 80])
+    } else {
+        request_in(rt, s, at, &mut [0u32; 80])
+    }
 }

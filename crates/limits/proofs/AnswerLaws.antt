@@ -1,19 +1,17 @@
 -- The answers index by index.
---     bit, byte_is                              a byte from what can be
 --     in_limits, values_here, priors_here       what the monitor works out at index i of limits that pass the questions
 --     Worked, worked_start, worked_next, worked_end, in_output_lem, keeps_length      a loop over the indices
 --     Judged, judged, judged_no, judged_yes     the answer, the output and the promise
 -- Assumes nothing.
 use mathlib.Core.Path.{◌≡◌, refl, sym, ap, ap₂, subst, ◌∙◌}
 use mathlib.Core.Logic.{inl, inr}
-use mathlib.Core.Bool.{Bool, true, false, ◌&&◌}
+use mathlib.Core.Bool.{true, false}
 use mathlib.Core.List.{List, ◌++◌}
 use Prim.Native.Nat.{ℕ, suc, ◌+◌, ◌-◌, ◌*◌, ◌≤◌, ◌<◌}
 use native.Mathlib.Omega.{arith}
 use native.Mathlib.Numerals.{add-one}
 use lib.ListN.{length, get_or, set, take, drop, length-append, length-drop, get_or-eq_default}
 use lib.Seq.{drop-cons, set_at, append_snoc}
-use mir.Val.{bool_byte}
 use borrow.Author.Tests.{leb-true}
 use Rattle.spec.specs.Logic.{State, Trace, state_at}
 use Rattle.spec.specs.Questions.{Answer, passed, refused}
@@ -30,17 +28,6 @@ use Rattle.intervals.proofs.TruthLaws.{open_can}
 use Rattle.intervals.proofs.LimitsLaws.{in_order, length_bytes, Asked, asked_out, limits_kept}
 use Rattle.limits.specs.Monitor.{Values, NodeValues, Now, now_at, first_cans}
 use Rattle.limits.proofs.MonitorLaws.{few_held, node_truth, PriorsAt, values_at, priors_next, priors_first}
-
--- ---- a byte
-
-pub bit : (b : Bool) → bool_byte b < 2
-bit true = omega arith
-bit false = omega arith
-
-pub byte_is : (a b : Bool) → bool_byte a + bool_byte (a && b) ≡ byte_of (open_if a b)
-byte_is true true = refl
-byte_is true false = refl
-byte_is false b = refl
 
 module _ (rule lows highs : List ℕ) where
   abbrev t : Table
@@ -157,11 +144,11 @@ module _ (form : Form) (rule lows highs out : List ℕ) where
   pub judged : (a : Answer ℕ) (after : List ℕ) → a ≡ limiting form rule lows highs out → after ≡ limits_output form rule lows highs out → Judged a after
   judged a after e d = (e, (d, λ n g. subst (LimitsRight form rule lows highs) (sym d) (limits_kept form rule lows highs out n (sym e ∙ g))))
 
-  pub judged_no : (q i : ℕ) → check_limits form rule lows highs out ≡ refused q i → Judged (refused q i) out
+  pub judged_no : (a : Answer ℕ) (q i : ℕ) → a ≡ refused q i → check_limits form rule lows highs out ≡ refused q i → Judged a out
   unfolding limiting limits_output
-  judged_no q i e =
+  judged_no a q i said e =
       let no_answer = then_refused (check_limits form rule lows highs out) (passed (state_count lows)) q i e in
-      judged (refused q i) out (sym no_answer) (sym (ap (λ a. answers_for (rule_truth form rule lows highs) a out) no_answer))
+      judged a out (said ∙ sym no_answer) (sym (ap (λ x. answers_for (rule_truth form rule lows highs) x out) no_answer))
 
   pub judged_yes : check_limits form rule lows highs out ≡ passed tt → (after : List ℕ)
       → after ≡ bytes_for (rule_truth form rule lows highs) (state_count lows) ++ drop (state_count lows) out → Judged (passed (state_count lows)) after

@@ -2,4 +2,4 @@
 pub mod MonitorLaws
 pub mod AnswerLaws
 pub mod QuestionLaws
-pub mod WidenLaws
+pub mod SecondLaws

@@ -1,5 +1,5 @@
 -- The laws of `specs/Monitor.antt`.
---     both_sides, joins                       what the code's pairs and sets say, value by value
+--     both_sides, joins, keeps_value          what the code's pairs and sets say, value by value
 --     PriorsAt, priors_first, first_are       priors before an index, and the first ones
 --     values_at, priors_next                  from the priors: what every node can be, and the next priors
 -- Assumes nothing.
@@ -22,7 +22,9 @@ use Rattle.spec.proofs.MonitorLaws.{step_below, below_has}
 use Rattle.sets.specs.Sets.{set_of, adding, excluding}
 use Rattle.sets.proofs.SetLaws.{empty_set, adding_is}
 use Rattle.sets.proofs.WordLaws.{full_set}
-use Rattle.rule.specs.Nodes.{form_in, RulePasses}
+use Rattle.rule.specs.declared.node.Node.{Node as Read}
+use Rattle.rule.specs.declared.node.Node.TheVariants.{False, Equal, Below, Implies, Since, WeakPrevious, EqualRegisters}
+use Rattle.rule.specs.Nodes.{form_in, node_read, RulePasses}
 use Rattle.rule.specs.Monitor.{first_priors}
 use Rattle.rule.proofs.MonitorLaws.{first_is}
 use Rattle.intervals.specs.Limits.{Truth₃, false₃, can, since₃, since_at, previous_at, truth_at}
@@ -30,7 +32,7 @@ use Rattle.intervals.proofs.TruthLaws.{implies_can_lem, since_can_lem}
 use Rattle.intervals.proofs.TestLaws.{test_is}
 use Rattle.limits.specs.declared.monitor.Can.{Can}
 use Rattle.limits.specs.declared.monitor.Cans.{Cans}
-use Rattle.limits.specs.Monitor.{can_of, none, implies_can, since_can, NodeValues, cans_of, node_can, node_next, joining, with_node, now_below, now_at, first_cans}
+use Rattle.limits.specs.Monitor.{Values, can_of, none, implies_can, since_can, NodeValues, cans_of, node_can, node_next, joining, with_node, now_below, now_at, first_cans}
 
 -- ---- pairs and sets
 
@@ -53,6 +55,17 @@ joins s r k x h p q =
 -- no node at all
 pub none_are : ◌≡◌ {A = NodeValues} (λ k b. set_of (cond b 0 0) k) (λ k. none)
 none_are = fun_ext (λ k. both_sides (empty_set k) (empty_set k))
+
+-- for a node that is no weak previous, what its next prior can be is what it can be itself
+pub keeps_value : (x : Read) (value : Values) (values : NodeValues) → ((l : ℕ) → x ≡ WeakPrevious l → ⊥) → value ≡ node_next (node_read x) value values
+unfolding node_next
+keeps_value False value values n = refl
+keeps_value (Equal r c) value values n = refl
+keeps_value (Below r c) value values n = refl
+keeps_value (Implies l r) value values n = refl
+keeps_value (Since l r) value values n = refl
+keeps_value (WeakPrevious l) value values n = absurd (n l refl)
+keeps_value (EqualRegisters r q) value values n = refl
 
 -- a rule that is held has at most 64 nodes
 pub few_held : (rule : List ℕ) → RulePasses rule → length rule ≤ 64

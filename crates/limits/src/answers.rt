@@ -21,15 +21,11 @@ pub(crate) fn put_answers(rule: &[u64], lows: &[u16], highs: &[u16], out: &mut [
     let count = lows.len() / 16;
     let last = rule.len() - 1;
     let mut priors = first_cans(rule);
-    let mut i = 0;
-    while i < count {
+    for i in 0..count {
         let at = 16 * i;
         let end = at + 16;
         let m = evaluate(rule, &lows[at..end], &highs[at..end], priors);
-        let values = m.values;
-        let next = m.priors;
-        out[i] = byte_of(can_at(values, last));
-        priors = next;
-        i += 1;
+        out[i] = byte_of(can_at(m.values, last));
+        priors = m.priors;
     }
 }

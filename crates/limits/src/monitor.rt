@@ -129,7 +129,7 @@ fn node_can(x: Node, k: usize, low: &[u16], high: &[u16], values: Cans, priors: 
             can_at(values, right),
             can_at(priors, k),
         ),
-        Node::WeakPrevious { left: _ } => can_at(priors, k),
+        Node::WeakPrevious { .. } => can_at(priors, k),
         Node::EqualRegisters { register, other } => {
             equal_registers_can(low, high, register, other)
         }
@@ -143,21 +143,7 @@ fn next_can(x: Node, value: Can, values: Cans) -> Can
 {
     match x {
         Node::WeakPrevious { left } => can_at(values, left),
-        Node::False => value,
-        Node::Equal {
-            register: _,
-            constant: _,
-        } => value,
-        Node::Below {
-            register: _,
-            constant: _,
-        } => value,
-        Node::Implies { left: _, right: _ } => value,
-        Node::Since { left: _, right: _ } => value,
-        Node::EqualRegisters {
-            register: _,
-            other: _,
-        } => value,
+        _ => value,
     }
 }
 
@@ -166,12 +152,10 @@ fn evaluate_node(x: Node, k: usize, low: &[u16], high: &[u16], priors: Cans, m: 
     requires { (16 ≤ length low.now) × (16 ≤ length high.now) × NodeSmall (node_read x) × (node_allowed (node_read x) ≡ true) × (k < capacity) }
     ensures { now_of result ≡ with_node (node_read x) k low.now high.now (cans_of priors) (now_of m) }
 {
-    let values = m.values;
-    let next = m.priors;
-    let value = node_can(x, k, low, high, values, priors);
+    let value = node_can(x, k, low, high, m.values, priors);
     Moment {
-        values: with_can(values, k, value),
-        priors: with_can(next, k, next_can(x, value, values)),
+        values: with_can(m.values, k, value),
+        priors: with_can(m.priors, k, next_can(x, value, m.values)),
     }
 }
 
@@ -184,10 +168,8 @@ pub fn evaluate(rule: &[u64], low: &[u16], high: &[u16], priors: Cans) -> Moment
         values: Cans { yes: 0, no: 0 },
         priors: Cans { yes: 0, no: 0 },
     };
-    let mut k = 0;
-    while k < rule.len() {
-        m = evaluate_node(read_node(rule[k]), k, low, high, priors, m);
-        k += 1;
+    for (k, &word) in rule.iter().enumerate() {
+        m = evaluate_node(read_node(word), k, low, high, priors, m);
     }
     m
 }

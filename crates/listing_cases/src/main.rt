@@ -2,7 +2,7 @@
 // many bytes it has, and fills whole words; a 0 in place of that word is skipped.
 #![tactic(auto)]
 
-ghost use Rattle.std.specs.Prelude.{◌<◌, IfOk};
+ghost use Rattle.std.specs.Prelude.{◌<◌, IfOk, IfSome};
 
 use input::read_full;
 use render::listing::list;
@@ -15,36 +15,40 @@ fn answer(rt: &impl Print, bytes: &[u8]) -> io::Result<()> {
     rt.write_all(&text[..length])
 }
 
-// The input that starts at word `at`, and where the next one starts.
+// The input that starts at word `at`, and where the next one starts; nothing where this one is too large or not all there.
 // The one error is that of a write that failed; nothing of the caller's changes then.
-fn request(rt: &impl Print, s: &[u8], at: usize) -> io::Result<usize>
+fn request(rt: &impl Print, s: &[u8], at: usize) -> io::Result<Option<usize>>
     requires { at < 16384 }
-    ensures { IfOk result (λ next. at < next) }
+    ensures { IfOk result (λ next. IfSome next (λ n. at < n)) }
 {
     let size = word_at(s, at) as usize;
     if size == 0 {
-        return Ok(at + 1);
+        return Ok(Some(at + 1));
     }
     if 65536 < size {
-        return Ok(100000);
+        return Ok(None);
     }
     let start = 4 * at + 4;
     let end = start + size - 1;
     if s.len() < end {
-        return Ok(100000);
+        return Ok(None);
     }
     answer(rt, &s[start..end])?;
-    Ok(at + 1 + (size + 2) / 4)
+    Ok(Some(at + 1 + (size + 2) / 4))
 }
 
 // Every input in the bytes, one after another.
 fn requests_in(rt: &impl Print, s: &[u8]) -> io::Result<()> {
     let mut at = 0;
+    // A step goes over a whole request, however long: no index is counted.
     while at < s.len() / 4 {
         if 16384 <= at {
             return Ok(());
         }
-        at = request(rt, s, at)?;
+        let Some(next) = request(rt, s, at)? else {
+            return Ok(());
+        };
+        at = next;
     }
     Ok(())
 }

@@ -1,36 +1,36 @@
 -- Readiness of a machine (`specs/Ready.antt` of crate spec).
---     write_opcode                        the opcodes that write a register
+--     writing, not_writing                the opcodes that write a register
 --     renew_present, renew_write, renew_not    what an instruction does to it, by opcode
 --     first_ready, fresh_state            the fresh start
---     few_wide, few_narrow, table_wide, table_narrow    a rule in either form
 --     state_not, state_step               one step of a stored script
 --     state_cut                           only as many nodes as the form allows are looked at
 -- Assumes nothing.
+use mathlib.Core.Logic.{◌⊎◌, inl, inr}
 use mathlib.Core.Path.{◌≡◌, refl, sym, ap, ap₂, ◌∙◌}
-use mathlib.Core.Bool.{Bool, true, false, cond, not, ◌&&◌, ◌||◌}
+use mathlib.Core.Bool.{Bool, true, false, cond, not, ◌&&◌}
 use mathlib.Core.Option.{Option, none, some}
 use mathlib.Core.List.{List}
 use Prim.Native.Nat.{ℕ, ◌≤◌}
 use native.Mathlib.Omega.{arith}
-use lib.Dec.{eqb, leb, ltb}
-use lib.ListN.{length, get_or, take, get_or-eq_default}
+use lib.Dec.{eqb, ltb}
+use lib.ListN.{length, take}
 use lib.Seq.{take_all}
-use borrow.Author.Tests.{lt-leb, eqb-true, eq-eqb, ne_eqb}
+use borrow.Author.Tests.{eqb-true, eq-eqb}
 use Rattle.spec.specs.Logic.{State}
-use Rattle.spec.specs.Rule.{Form, form32, form64, Table, table_of}
+use Rattle.spec.specs.Rule.{Form, Table, table_of}
 use Rattle.spec.specs.Monitor.{rule_reads}
-use Rattle.spec.specs.Script.{Instruction, halt, write, branch, goto, present, set_work, keep, Fields, by_opcode, instruction_of, instruction_at, annotated_opcode, line_allowed}
+use Rattle.spec.specs.Script.{Instruction, halt, write, branch, goto, present, set_work, keep, instruction_of, instruction_at, annotated_opcode, line_allowed}
 use Rattle.spec.specs.Check.{code_of, annotated_stored, lines_of}
 use Rattle.spec.specs.Machine.{Machine, machine, zeros, fresh, fresh_of, move, Stop, stops, step, unless_stopped, acting, table_within, can_run, step_of}
 use Rattle.spec.specs.Ready.{Readiness, MachineState, worked_out, first_readiness, ready_move, ready_unless, ready_acting, fresh_state_of, ready_step_of, state_step_of}
-use Rattle.spec.proofs.BoolLaws.{clash}
-use Rattle.spec.proofs.OpcodeLaws.{by_opcode_lem}
+use Rattle.script.specs.declared.instruction.Opcode.{Opcode}
+use Rattle.script.specs.declared.instruction.Opcode.TheVariants.{Set, Copy, Raise, Input, Present, Lower}
+use Rattle.script.proofs.LineLaws.{each_opcode, read}
 use Rattle.rule.specs.Monitor.{first_priors}
-use Rattle.moves.specs.Moves.{widen_rule}
-use Rattle.moves.proofs.NodeMoveLaws.{table_widen}
 use Rattle.sets.specs.Sets.{set_of}
+use Rattle.rule.proofs.SecondLaws.{second_table}
 use Rattle.sets.proofs.SetLaws.{empty_is}
-use Rattle.rule.specs.Nodes.{form_in, form_by, stored_in, table_in, table_by}
+use Rattle.rule.specs.Nodes.{form_by, second_form, table_in}
 use Rattle.script.specs.Lines.{line_in}
 use Rattle.machine.specs.Machines.{writes_register}
 use Rattle.machine.proofs.StepLaws.{instruction_at_lem, step_is, few_cut}
@@ -38,48 +38,42 @@ use Rattle.machine.proofs.StartLaws.{first_priors_lem}
 
 -- ---- by opcode
 
-module _ (f : Fields) where
-  abbrev at : ℕ → Instruction
-  at k = get_or (by_opcode f) k halt
-
-  high : (k : ℕ) → 15 ≤ k → halt ≡ at k
-  high k h = sym (get_or-eq_default (by_opcode f) halt h)
-
-  pub write_opcode : ((leb 1 f.opcode && leb f.opcode 4) || eqb f.opcode 14) ≡ writes_register (instruction_of f)
+module _ (r c target : ℕ) where
+  pub writing : (o : Opcode) → o ≡ Set ⊎ (o ≡ Copy ⊎ (o ≡ Raise ⊎ (o ≡ Input ⊎ o ≡ Lower))) → true ≡ writes_register (read r c target o)
   unfolding instruction_of
-  write_opcode =
-      by_opcode_lem (λ k. ((leb 1 k && leb k 4) || eqb k 14) ≡ writes_register (at k)) refl refl refl refl refl refl refl refl refl refl refl refl refl refl refl
-      (λ k h. rw (lt-leb k 4 (omega arith), ne_eqb k 14 (λ e. omega arith)) (both_false (leb 1 k)) ∙ ap writes_register (high k h)) f.opcode
-    where
-      both_false : (b : Bool) → (b && false || false) ≡ false
-      both_false true = refl
-      both_false false = refl
+  writing o (inl e) = rw e
+  writing o (inr (inl e)) = rw e
+  writing o (inr (inr (inl e))) = rw e
+  writing o (inr (inr (inr (inl e)))) = rw e
+  writing o (inr (inr (inr (inr e)))) = rw e
 
-  module _ (t : Table) (s : State) (x : Readiness) where
+  pub not_writing : (o : Opcode) → (o ≡ Set → ⊥) → (o ≡ Copy → ⊥) → (o ≡ Raise → ⊥) → (o ≡ Input → ⊥) → (o ≡ Lower → ⊥) → false ≡ writes_register (read r c target o)
+  unfolding instruction_of
+  not_writing =
+      each_opcode (λ o. (o ≡ Set → ⊥) → (o ≡ Copy → ⊥) → (o ≡ Raise → ⊥) → (o ≡ Input → ⊥) → (o ≡ Lower → ⊥) → false ≡ writes_register (read r c target o))
+      (λ u v w x y. refl) (λ u v w x y. absurd (u refl)) (λ u v w x y. absurd (v refl)) (λ u v w x y. absurd (w refl)) (λ u v w x y. absurd (x refl)) (λ u v w x y. refl) (λ u v w x y. refl) (λ u v w x y. refl) (λ u v w x y. refl) (λ u v w x y. refl) (λ u v w x y. refl) (λ u v w x y. refl) (λ u v w x y. refl) (λ u v w x y. refl) (λ u v w x y. absurd (y refl)) (λ u v w x y. refl)
+
+  module _ (t : Table) (s : State) (x : Readiness) (o : Opcode) where
     abbrev after : Bool → Readiness
-    after done = cond done (ready_move t (instruction_of f) s x) x
+    after done = cond done (ready_move t (read r c target o) s x) x
 
-    pub renew_present : (done : Bool) → done ≡ true → f.opcode ≡ 8 → worked_out t s x.next x.tested ≡ after done
+    pub renew_present : (done : Bool) → done ≡ true → o ≡ Present → worked_out t s x.next x.tested ≡ after done
     unfolding instruction_of ready_move
     renew_present done d e = rw (d, e)
 
     -- the instruction writes register r, or leaves it
-    renew_at : (b : Bool) → x.tested f.r ≡ b → (k : ℕ) → (k ≡ 8 → ⊥)
-        → cond (writes_register (at k) && b) (worked_out t s x.priors x.tested) x ≡ ready_move t (at k) s x
-    unfolding ready_move
-    renew_at b e =
-        by_opcode_lem (λ k. (k ≡ 8 → ⊥) → cond (writes_register (at k) && b) (worked_out t s x.priors x.tested) x ≡ ready_move t (at k) s x)
-        (λ n. refl) (λ n. rw e) (λ n. rw e) (λ n. rw e) (λ n. rw e) (λ n. refl) (λ n. refl) (λ n. refl) (λ n. absurd (n refl)) (λ n. refl) (λ n. refl)
-        (λ n. refl) (λ n. refl) (λ n. refl) (λ n. rw e) (λ k h n. ap (λ i. cond (writes_register i && b) (worked_out t s x.priors x.tested) x) (sym (high k h)) ∙ ap (λ i. ready_move t i s x) (high k h))
+    renew_is : (o ≡ Present → ⊥) → cond (writes_register (read r c target o) && x.tested r) (worked_out t s x.priors x.tested) x ≡ after true
+    unfolding instruction_of ready_move
+    renew_is =
+        each_opcode (λ o. (o ≡ Present → ⊥)
+        → cond (writes_register (read r c target o) && x.tested r) (worked_out t s x.priors x.tested) x ≡ ready_move t (read r c target o) s x)
+        (λ n. refl) (λ n. refl) (λ n. refl) (λ n. refl) (λ n. refl) (λ n. refl) (λ n. refl) (λ n. refl) (λ n. absurd (n refl)) (λ n. refl) (λ n. refl) (λ n. refl) (λ n. refl) (λ n. refl) (λ n. refl) (λ n. refl) o
 
-    renew_is : (f.opcode ≡ 8 → ⊥) → cond (writes_register (instruction_of f) && x.tested f.r) (worked_out t s x.priors x.tested) x ≡ after true
-    unfolding instruction_of
-    renew_is n = renew_at (x.tested f.r) refl f.opcode n
-
-    pub renew_write : (done : Bool) → done ≡ true → (f.opcode ≡ 8 → ⊥) → (writes_register (instruction_of f) && x.tested f.r) ≡ true → worked_out t s x.priors x.tested ≡ after done
+    pub renew_write : (done : Bool) → done ≡ true → (o ≡ Present → ⊥) → (writes_register (read r c target o) && x.tested r) ≡ true
+        → worked_out t s x.priors x.tested ≡ after done
     renew_write done d n e = rw d (ap (λ b. cond b (worked_out t s x.priors x.tested) x) (sym e) ∙ renew_is n)
 
-    pub renew_not : (done : Bool) → done ≡ true → (f.opcode ≡ 8 → ⊥) → (writes_register (instruction_of f) && x.tested f.r) ≡ false → x ≡ after done
+    pub renew_not : (done : Bool) → done ≡ true → (o ≡ Present → ⊥) → (writes_register (read r c target o) && x.tested r) ≡ false → x ≡ after done
     renew_not done d n e = rw d (ap (λ b. cond b (worked_out t s x.priors x.tested) x) (sym e) ∙ renew_is n)
 
 -- ---- the fresh start
@@ -88,52 +82,31 @@ pub first_ready : (t : Table) → length t ≤ 64 → (p q : ℕ → Bool) → p
 unfolding first_readiness
 first_ready t few p q e d = ap₂ (λ a b. worked_out t zeros a b) (e ∙ first_priors_lem t few zeros) d
 
-pub fresh_state : (rule ws : List ℕ) (x : Readiness) → x ≡ first_readiness (table_in ws) → ws ≡ take 64 rule → (lent : List ℕ)
-    → record { machine = machine 0 zeros x.priors (set_of 0) 0 0 lent; readiness = x } ≡ fresh_state_of form_in rule lent
-unfolding fresh_state_of fresh_of fresh first_readiness form64
-fresh_state rule ws x e d lent =
-    let first = e ∙ ap (λ r. first_readiness (table_in r)) d in
+pub fresh_state : (b : Bool) (rule table : List ℕ) (x : Readiness) → x ≡ first_readiness (table_in table) → table ≡ second_form b (take (form_by b).width rule) → (lent : List ℕ)
+    → record { machine = machine 0 zeros x.priors (set_of 0) 0 0 lent; readiness = x } ≡ fresh_state_of (form_by b) rule lent
+unfolding fresh_state_of fresh_of fresh first_readiness
+fresh_state b rule table x e d lent =
+    let first = e ∙ ap first_readiness (ap table_in d ∙ second_table b (take (form_by b).width rule)) in
     λ i. record { machine = machine 0 zeros (first i).priors (empty_is i) 0 0 lent; readiness = first i }
 
 -- ---- a rule in either form
 
-module _ (narrow wide : List ℕ) where
-  pub few_wide : (b : Bool) → b ≡ true → length (stored_in b narrow wide) ≤ (form_by b).width → length wide ≤ 64
-  unfolding form64
-  few_wide true e h = h
-  few_wide false e h = clash e refl
-
-  pub few_narrow : (b : Bool) → b ≡ false → length (stored_in b narrow wide) ≤ (form_by b).width → length narrow ≤ 32
-  unfolding form32
-  few_narrow true e h = clash refl e
-  few_narrow false e h = h
-
-  pub table_wide : (b : Bool) → b ≡ true → table_in wide ≡ table_by b narrow wide
-  table_wide true e = refl
-  table_wide false e = clash e refl
-
-  pub table_narrow : (b : Bool) → b ≡ false → (table : List ℕ) → table ≡ widen_rule narrow → table_in table ≡ table_by b narrow wide
-  table_narrow true e table d = clash refl e
-  table_narrow false e table d = ap table_in d ∙ table_widen narrow
-
--- ---- one step
-
-module _ (b : Bool) (rules script wide inputs : List ℕ) (x : MachineState) where
+module _ (b : Bool) (rules script inputs : List ℕ) (x : MachineState) where
   abbrev m : Machine
   m = x.machine
 
   abbrev i : Instruction
-  i = (line_in b script wide m.line).instruction
+  i = (line_in b script m.line).instruction
 
   abbrev next : MachineState
-  next = state_step_of (form_by b) rules (stored_in b script wide) inputs x
+  next = state_step_of (form_by b) rules script inputs x
 
-  pub state_not : can_run (form_by b) rules (stored_in b script wide) m.line ≡ false → x ≡ next
+  pub state_not : can_run (form_by b) rules script m.line ≡ false → x ≡ next
   unfolding ready_step_of step_of
   state_not e = rw e
 
-  here : instruction_at (code_of (lines_of (form_by b) (stored_in b script wide))) m.line ≡ i
-  here = instruction_at_lem b script wide m.line
+  here : instruction_at (code_of (lines_of (form_by b) script)) m.line ≡ i
+  here = instruction_at_lem b script m.line
 
   -- an instruction that leaves the machine at its line leaves readiness
   stays : (i : Instruction) (t : Table) (s : State) → (move inputs i m).line ≡ m.line → ready_move t i s x.readiness ≡ x.readiness
@@ -161,10 +134,10 @@ module _ (b : Bool) (rules script wide inputs : List ℕ) (x : MachineState) whe
       go none d false q = rw (e ∙ ap not q) (ap (λ (n : Machine). ready_move t i n.registers y) d)
       go (some s) d same q = rw (e ∙ ap not (eq-eqb m'.line m.line (ap (λ (n : Machine). n.line) d)))
 
-  module _ (can : can_run (form_by b) rules (stored_in b script wide) m.line ≡ true) where
+  module _ (can : can_run (form_by b) rules script m.line ≡ true) where
     ready_step : (t : Table) → t ≡ table_within (form_by b) rules → (m' : Machine) → m' ≡ acting inputs i m → (done : Bool) → done ≡ not (eqb m'.line m.line)
         → cond done (ready_move t i m'.registers x.readiness) x.readiness
-        ≡ ready_step_of (form_by b) rules (stored_in b script wide) inputs m x.readiness
+        ≡ ready_step_of (form_by b) rules script inputs m x.readiness
     unfolding ready_step_of
     ready_step t within m' d done e =
         rw (can, here) (done_is t i m' d done e ∙ ap (λ (u : Table). ready_acting u inputs i m x.readiness) within)
@@ -173,7 +146,7 @@ module _ (b : Bool) (rules script wide inputs : List ℕ) (x : MachineState) whe
         → (done : Bool) → done ≡ not (eqb m'.line m.line) → (y : Readiness)
         → y ≡ cond done (ready_move t j m'.registers x.readiness) x.readiness → record { machine = m'; readiness = y } ≡ next
     state_step m' d t within j same done e y h =
-        let u = step_is b rules script wide inputs m can m' d in
+        let u = step_is b rules script inputs m can m' d in
         let v = h ∙ ap (λ (k : Instruction). cond done (ready_move t k m'.registers x.readiness) x.readiness) same ∙ ready_step t within m' d done e in
         λ k. record { machine = u k; readiness = v k }
 

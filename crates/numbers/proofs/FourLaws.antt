@@ -19,8 +19,9 @@ use Rattle.turns.specs.Stations as stationed
 use Rattle.turns.specs.Stations.{Four, each_of, Station, question21, check_stations, running_stations, StationsReport, stations_report}
 use Rattle.spec.proofs.QuestionLaws.{both_passed, once_out}
 use Rattle.machine.specs.declared.Machine.{Machine}
-use Rattle.stations.specs.declared.StationsAnswer.{StationsAnswer}
-use Rattle.stations.specs.declared.StationsAnswer.TheVariants.{Ran, Refused}
+use Rattle.std.specs.Prelude.{Result, Ok, Err}
+use Rattle.rule.specs.declared.answer.Refusal.{Refusal}
+use Rattle.stations.specs.declared.Ran.{Ran}
 use Rattle.stations.specs.Views.{stations_of, machines_of, report_in, LeftAs, Answered}
 use Rattle.numbers.specs.Numbers.{number_of}
 use Rattle.numbers.specs.States.{states_in}
@@ -106,12 +107,12 @@ report_number (passed p) = refl
 report_number (refused q i) = refl
 
 module _ (ms before : Four Machine) (lent left : Four (List ℕ)) (ws : List ℕ) where
-  states_after_lem : (x : Answer stationed.Progress) (a : StationsAnswer) → Answered x a before ms lent left
+  states_after_lem : (x : Answer stationed.Progress) (a : Result Ran Refusal) → Answered x a before ms lent left
       → states_left a (machines_of ms left) ws ≡ states_after x ws
-  states_after_lem (passed p) (Ran turns rest) h = ap states_words h.kept
-  states_after_lem (passed p) (Refused q i) h = let v = ap (λ r. r.verdict) h.report in let z : ◌≡◌ {A = ℕ} 0 1 = cc in absurd (omega arith)
-  states_after_lem (refused q i) (Ran turns rest) h = let v = ap (λ r. r.verdict) h.report in let z : ◌≡◌ {A = ℕ} 0 1 = cc in absurd (omega arith)
-  states_after_lem (refused q i) (Refused q₂ i₂) h = refl
+  states_after_lem (passed p) (Ok r) h = ap states_words h.kept
+  states_after_lem (passed p) (Err r) h = let v = ap (λ (x : StationsReport). x.verdict) h.report in let z : ◌≡◌ {A = ℕ} 0 1 = cc in absurd (omega arith)
+  states_after_lem (refused q i) (Ok r) h = let v = ap (λ (x : StationsReport). x.verdict) h.report in let z : ◌≡◌ {A = ℕ} 0 1 = cc in absurd (omega arith)
+  states_after_lem (refused q i) (Err r) h = refl
 
   histories_after_lem : (x : Answer stationed.Progress) → LeftAs x before ms lent left → left ≡ histories_after x lent
   histories_after_lem (passed p) h = ap (each_of (λ x. x.machine.history)) h
@@ -136,7 +137,7 @@ module _ (form : Form) (states : List ℕ) (rules scripts inputs lent : Four (Li
         made = no_room 3 numbers h (histories_after ran lent) lent;
       }
 
-  module _ (n : ℕ) (counted : n ≡ states_in states) (a : StationsAnswer) (before ms : Four Machine) (left : Four (List ℕ))
+  module _ (n : ℕ) (counted : n ≡ states_in states) (a : Result Ran Refusal) (before ms : Four Machine) (left : Four (List ℕ))
       (answered : Answered (running_stations form n (stations_of rules scripts inputs lent) budget allowance) a before ms lent left) where
     is : Answered ran a before ms lent left
     is = subst (λ k. Answered (running_stations form k (stations_of rules scripts inputs lent) budget allowance) a before ms lent left) counted answered
@@ -144,10 +145,10 @@ module _ (form : Form) (states : List ℕ) (rules scripts inputs lent : Four (Li
     pub run_four : FourWords a states
     run_four = go a ran refl is.report
       where
-        go : (b : StationsAnswer) (x : Answer stationed.Progress) → ran ≡ x → report_in b ≡ stations_report x → FourWords b states
-        go (Ran turns rest) (passed p) e told = hundred states (four_counted form (states_in states) _ budget allowance p e)
-        go (Ran turns rest) (refused q i) e told = let v = ap (λ r. r.verdict) told in let z : ◌≡◌ {A = ℕ} 0 1 = cc in absurd (omega arith)
-        go (Refused q i) x e told = tt
+        go : (b : Result Ran Refusal) (x : Answer stationed.Progress) → ran ≡ x → report_in b ≡ stations_report x → FourWords b states
+        go (Ok r) (passed p) e told = hundred states (four_counted form (states_in states) _ budget allowance p e)
+        go (Ok r) (refused q i) e told = let v = ap (λ (x : StationsReport). x.verdict) told in let z : ◌≡◌ {A = ℕ} 0 1 = cc in absurd (omega arith)
+        go (Err r) x e told = tt
 
     pub stations_noted : 3 ≤ length numbers → (r : ℕ) (written after : List ℕ) → r ≡ number_of (report_in a).verdict
         → written ≡ stations_words (report_in a) ++ drop 3 numbers → after ≡ states_left a (machines_of ms left) states

@@ -1,12 +1,12 @@
 -- Request 2026-10: a run of four stations as numbers. Their states' words stand one after the other, station 0's first.
-use Rattle.std.specs.Prelude.{◌≡◌, cond, List, [], ◌∷◌, ◌++◌, ℕ, ◌*◌, length}
+use Rattle.std.specs.Prelude.{◌≡◌, cond, List, [], ◌∷◌, ◌++◌, ℕ, ◌*◌, length, Result, Ok, Err}
 use Rattle.spec.specs.Questions.{Answer, passed, refused}
 use Rattle.spec.specs.Rule.{Form}
 use Rattle.spec.specs.Ready.{MachineState}
 use Rattle.turns.specs.Stations.{station_count, Four, each_of, Progress, running_stations, StationsReport, stations_report}
 use Rattle.stations.specs.Views.{stations_of}
-use Rattle.stations.specs.declared.StationsAnswer.{StationsAnswer}
-use Rattle.stations.specs.declared.StationsAnswer.TheVariants.{Ran, Refused}
+use Rattle.rule.specs.declared.answer.Refusal.{Refusal}
+use Rattle.stations.specs.declared.Ran.{Ran}
 use Rattle.numbers.specs.Numbers.{room_for, with_words, place_of, result_for}
 use Rattle.numbers.specs.States.{state_length, states_in, state_words}
 
@@ -33,14 +33,14 @@ histories_after (passed p) lent = each_of (λ x. x.machine.history) p.machines
 histories_after (refused q i) lent = lent
 
 -- the same of the code's own answer, with its machines' states
-abbrev pub states_left : StationsAnswer → (ms : Four MachineState) → (lent : List ℕ) → List ℕ
-states_left (Ran turns left) ms lent = states_words ms
-states_left (Refused question place) ms lent = lent
+abbrev pub states_left : Result Ran Refusal → (ms : Four MachineState) → (lent : List ℕ) → List ℕ
+states_left (Ok r) ms lent = states_words ms
+states_left (Err r) ms lent = lent
 
 -- a run that was made had four states lent
-abbrev pub FourWords : StationsAnswer → (lent : List ℕ) → Type 0
-FourWords (Ran turns left) lent = length lent ≡ station_count * state_length
-FourWords (Refused question place) lent = Unit {0}
+abbrev pub FourWords : Result Ran Refusal → (lent : List ℕ) → Type 0
+FourWords (Ok r) lent = length lent ≡ station_count * state_length
+FourWords (Err r) lent = Unit {0}
 
 -- how many numbers an answer has
 abbrev pub stations_length : ℕ

@@ -7,39 +7,37 @@ ghost use Rattle.numbers.specs.Numbers.{number_of};
 ghost use Rattle.numbers.specs.States.{states_in, state_words};
 ghost use Rattle.numbers.specs.Stations.{stations_words, states_words, states_left, FourWords};
 
+use crate::notes::note_refusal;
 use crate::states::put_machine;
 use machine::Machine;
-use stations::{FourStates, StationsAnswer};
+use rule::answer::Refusal;
+use stations::{FourStates, Ran};
 
 // How many states the words are.
 pub fn count_states(states: &[u64]) -> usize
     ensures { result ≡ states_in states.now }
 {
-    if states.len() % 25 != 0 {
-        return 0;
+    if states.len() % 25 == 0 {
+        states.len() / 25
+    } else {
+        0
     }
-    states.len() / 25
 }
 
 // The number handed back; place, turns and what is left are written.
-fn note_stations(a: StationsAnswer, numbers: &mut [u64]) -> u32
+fn note_stations(a: Result<Ran, Refusal>, numbers: &mut [u64]) -> u32
     requires { 3 ≤ length numbers.old }
     ensures result { result ≡ number_of (report_in a).verdict }
     ensures words { numbers.new ≡ stations_words (report_in a) ++ drop 3 numbers.old }
 {
     match a {
-        StationsAnswer::Ran { turns, left } => {
+        Ok(ran) => {
             numbers[0] = 0;
-            numbers[1] = turns;
-            numbers[2] = left;
+            numbers[1] = ran.turns;
+            numbers[2] = ran.left;
             0
         }
-        StationsAnswer::Refused { question, place } => {
-            numbers[0] = place as u64;
-            numbers[1] = 0;
-            numbers[2] = 0;
-            question
-        }
+        Err(refusal) => note_refusal(refusal, 3, numbers),
     }
 }
 
@@ -56,14 +54,10 @@ fn put_states(ran: FourStates, states: &mut [u64])
     requires { length states.old ≡ 100 }
     ensures { (histories : Four (List ℕ)) → states.new ≡ states_words (machines_of (states_of ran) histories) }
 {
-    let first = ran.first;
-    let second = ran.second;
-    let third = ran.third;
-    let fourth = ran.fourth;
-    put_machine_at(first, 0, states);
-    put_machine_at(second, 25, states);
-    put_machine_at(third, 50, states);
-    put_machine_at(fourth, 75, states);
+    put_machine_at(ran.first, 0, states);
+    put_machine_at(ran.second, 25, states);
+    put_machine_at(ran.third, 50, states);
+    put_machine_at(ran.fourth, 75, states);
 }
 
 // What a run of four stations answers and leaves: the number handed back, the answer's numbers, and the states where it was made.
@@ -73,14 +67,8 @@ pub fn note_run(ran: FourStates, states: &mut [u64], numbers: &mut [u64]) -> u32
     ensures words { numbers.new ≡ stations_words (report_in ran.answer) ++ drop 3 numbers.old }
     ensures left { (histories : Four (List ℕ)) → states.new ≡ states_left ran.answer (machines_of (states_of ran) histories) states.old }
 {
-    let answer = ran.answer;
-    if let StationsAnswer::Refused {
-        question: _,
-        place: _,
-    } = answer
-    {
-        return note_stations(answer, numbers);
+    if ran.answer.is_ok() {
+        put_states(ran, states);
     }
-    put_states(ran, states);
-    note_stations(answer, numbers)
+    note_stations(ran.answer, numbers)
 }

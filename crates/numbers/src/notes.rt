@@ -1,47 +1,52 @@
-// Answers as numbers in lent words.
-ghost use Rattle.std.specs.Prelude.{◌≡◌, ◌∷◌, [], ◌++◌, ◌+◌, ◌≤◌, length, take, drop};
-ghost use Rattle.rule.specs.Answers.{answer_of, counted_of, verdict_of};
+// Answers as numbers in lent words. Each kind has a function of its own: what a yes writes differs at each, and a refusal's words are one function's.
+ghost use Rattle.std.specs.Prelude.{◌≡◌, ◌∷◌, [], ◌++◌, ◌+◌, ◌-◌, ◌≤◌, length, take, drop, replicate};
+ghost use Rattle.spec.specs.Questions.{passed};
+ghost use Rattle.rule.specs.Answers.{number_of as question_number, answer_of, counted_of, verdict_of};
 ghost use Rattle.machine.specs.Runs.{stop_of, report_in};
-ghost use Rattle.numbers.specs.Numbers.{number_of, place_of, checked_words, count_words, verdict_words, stop_number, report_words};
+ghost use Rattle.numbers.specs.Numbers.{number_of, checked_words, count_words, verdict_words, stop_number, report_words};
 
 use machine::answer::{RunAnswer, Stop};
-use rule::answer::{Answer, Counted, Verdict};
+use rule::answer::{Refusal, Verdict};
+
+// A refusal's words are n: its place, and zeros. The question's number is handed back.
+pub(crate) fn note_refusal(refusal: Refusal, n: usize, numbers: &mut [u64]) -> u32
+    requires { (1 ≤ n) × (n ≤ length numbers.old) }
+    ensures result { result ≡ question_number refusal.question }
+    ensures words { numbers.new ≡ refusal.place ∷ replicate (n - 1) 0 ++ drop n numbers.old }
+{
+    numbers[..n].fill(0);
+    numbers[0] = refusal.place as u64;
+    u32::from(refusal.question)
+}
 
 // The number handed back; the place is written.
-pub fn note_place(a: Answer, numbers: &mut [u64]) -> u32
+pub fn note_place(a: Result<(), Refusal>, numbers: &mut [u64]) -> u32
     requires { 1 ≤ length numbers.old }
     ensures result { result ≡ number_of (answer_of a) }
     ensures words { numbers.new ≡ checked_words (answer_of a) ++ drop 1 numbers.old }
 {
     match a {
-        Answer::Passed => {
+        Ok(()) => {
             numbers[0] = 0;
             0
         }
-        Answer::Refused { question, place } => {
-            numbers[0] = place as u64;
-            question
-        }
+        Err(refusal) => note_refusal(refusal, 1, numbers),
     }
 }
 
 // The number handed back; place and count are written.
-pub fn note_count(w: Counted, numbers: &mut [u64]) -> u32
+pub fn note_count(w: Result<usize, Refusal>, numbers: &mut [u64]) -> u32
     requires { 2 ≤ length numbers.old }
     ensures result { result ≡ number_of (counted_of w) }
     ensures words { numbers.new ≡ count_words (counted_of w) ++ drop 2 numbers.old }
 {
     match w {
-        Counted::Refused { question, place } => {
-            numbers[0] = place as u64;
-            numbers[1] = 0;
-            question
-        }
-        Counted::Count(n) => {
+        Ok(n) => {
             numbers[0] = 0;
             numbers[1] = n as u64;
             0
         }
+        Err(refusal) => note_refusal(refusal, 2, numbers),
     }
 }
 
@@ -57,24 +62,21 @@ fn note_four(a: u64, b: u64, c: u64, d: u64, numbers: &mut [u64])
 }
 
 // The number handed back; place, breach, index and number of states are written.
-pub fn note_verdict(v: Verdict, numbers: &mut [u64]) -> u32
+pub fn note_verdict(v: Result<Verdict, Refusal>, numbers: &mut [u64]) -> u32
     requires { 4 ≤ length numbers.old }
     ensures result { result ≡ number_of (verdict_of v) }
     ensures words { numbers.new ≡ verdict_words (verdict_of v) ++ drop 4 numbers.old }
 {
     match v {
-        Verdict::Refused { question, place } => {
-            note_four(place as u64, 0, 0, 0, numbers);
-            question
-        }
-        Verdict::Breach(index) => {
+        Ok(Verdict::Breach(index)) => {
             note_four(0, 1, index as u64, 0, numbers);
             0
         }
-        Verdict::Clean(states) => {
+        Ok(Verdict::Clean(states)) => {
             note_four(0, 0, 0, states as u64, numbers);
             0
         }
+        Err(refusal) => note_refusal(refusal, 4, numbers),
     }
 }
 
@@ -83,51 +85,15 @@ pub fn note_registers(registers: [u16; 16], at: usize, numbers: &mut [u64])
     requires { at + 16 ≤ length numbers.old }
     ensures { numbers.new ≡ take at numbers.old ++ registers ++ drop (at + 16) numbers.old }
 {
-    let mut i: usize = 0;
-    while i < 16 {
-        numbers[at + i] = wide(registers[i]);
-        i += 1;
+    for (i, register) in registers.iter().enumerate() {
+        numbers[at + i] = u64::from(*register);
     }
 }
 
-fn wide(x: u16) -> u64
-    ensures { result ≡ x }
-{
-    x as u64
-}
-
-fn number_of_stop(s: Stop) -> u32
-    ensures { result ≡ number_of (stop_of s) }
+fn number_of_stop(s: Stop) -> u64
+    ensures { result ≡ stop_number (passed (stop_of s)) }
 {
     match s {
-        Stop::Refused { question, place: _ } => question,
-        Stop::Halted => 0,
-        Stop::Spent => 0,
-        Stop::Dry => 0,
-        Stop::Full => 0,
-    }
-}
-
-fn place_of_stop(s: Stop) -> u64
-    ensures { result ≡ place_of (stop_of s) }
-{
-    match s {
-        Stop::Refused { question: _, place } => place as u64,
-        Stop::Halted => 0,
-        Stop::Spent => 0,
-        Stop::Dry => 0,
-        Stop::Full => 0,
-    }
-}
-
-fn kind_of_stop(s: Stop) -> u64
-    ensures { result ≡ stop_number (stop_of s) }
-{
-    match s {
-        Stop::Refused {
-            question: _,
-            place: _,
-        } => 0,
         Stop::Halted => 1,
         Stop::Spent => 2,
         Stop::Dry => 3,
@@ -136,19 +102,22 @@ fn kind_of_stop(s: Stop) -> u64
 }
 
 // The number handed back; place, stop, line, steps, presentations, inputs read and the registers are written.
-pub fn note_report(a: RunAnswer, numbers: &mut [u64]) -> u32
+pub fn note_report(a: Result<RunAnswer, Refusal>, numbers: &mut [u64]) -> u32
     requires { 22 ≤ length numbers.old }
     ensures result { result ≡ number_of (report_in a).stop }
     ensures words { numbers.new ≡ report_words (report_in a) ++ drop 22 numbers.old }
 {
-    let stop = a.stop;
-    let registers = a.registers;
-    numbers[0] = place_of_stop(stop);
-    numbers[1] = kind_of_stop(stop);
-    numbers[2] = a.line as u64;
-    numbers[3] = a.steps;
-    numbers[4] = a.presentations as u64;
-    numbers[5] = a.reads as u64;
-    note_registers(registers, 6, numbers);
-    number_of_stop(stop)
+    match a {
+        Ok(ran) => {
+            numbers[0] = 0;
+            numbers[1] = number_of_stop(ran.stop);
+            numbers[2] = ran.line as u64;
+            numbers[3] = ran.steps;
+            numbers[4] = ran.presentations as u64;
+            numbers[5] = ran.reads as u64;
+            note_registers(ran.registers, 6, numbers);
+            0
+        }
+        Err(refusal) => note_refusal(refusal, 22, numbers),
+    }
 }

@@ -13,13 +13,7 @@ fn registers_fit(state: &[u64]) -> bool
     requires { 25 ≤ length state.now }
     ensures { result ≡ registers_fit state.now }
 {
-    let mut fit = true;
-    let mut i: usize = 0;
-    while i < 16 {
-        fit = fit & (state[5 + i] <= 65535);
-        i += 1;
-    }
-    fit
+    state[5..21].iter().all(|word| *word <= 65535)
 }
 
 // Whether they do, and ready is 0 or 1.
@@ -48,10 +42,8 @@ pub fn read_machine(state: &[u64]) -> Machine
     ensures { (history : List ℕ) → state_of result history ≡ state_in state.now history }
 {
     let mut registers = [0u16; 16];
-    let mut i: usize = 0;
-    while i < 16 {
-        registers[i] = state[5 + i] as u16;
-        i += 1;
+    for (i, register) in registers.iter_mut().enumerate() {
+        *register = state[5 + i] as u16;
     }
     Machine {
         registers,
@@ -79,12 +71,11 @@ pub fn put_machine(m: Machine, state: &mut [u64])
     requires { 25 ≤ length state.old }
     ensures { (history : List ℕ) → state.new ≡ state_words (state_of m history) ++ drop 25 state.old }
 {
-    let registers = m.registers;
     put_readiness(m.readiness, state);
     state[0] = m.line as u64;
     state[1] = m.presentations as u64;
     state[2] = m.reads as u64;
     state[3] = m.kept;
     state[4] = m.work;
-    note_registers(registers, 5, state);
+    note_registers(m.registers, 5, state);
 }

@@ -1,6 +1,5 @@
 -- The laws of `specs/File.antt`.
 --     whole_no, whole_yes, whole_out            whether the limits are all there
---     place_inside                              a number of theirs is in the bytes
 --     length_limits, limits_start, limits_next  numbers written one after another
 -- Assumes nothing.
 use mathlib.Core.Path.{◌≡◌, refl, ap, subst, ◌∙◌}
@@ -31,10 +30,6 @@ unfolding is_whole
 whole_out bytes at e =
     let (p, q) = and_both (leb (index_count bytes at) 1000) (leb (limits_at at + 64 * index_count bytes at) (length bytes)) e in
     (leb-true (index_count bytes at) 1000 p, leb-true (limits_at at + 64 * index_count bytes at) (length bytes) q)
-
--- number j of `count` indices lies before their end
-pub place_inside : (at first count j : ℕ) → first ≤ 16 → j < 16 * count → place_of at first j + 1 < at + 64 * count
-place_inside at first count j f h = omega arith
 
 pub length_limits : (bytes : List ℕ) (at first n : ℕ) → length (limits_from bytes at first n) ≡ n
 unfolding limits_from

@@ -1,36 +1,32 @@
 -- The laws of `specs/Picture.antt`.
 --     limits_no, limits_yes                   the text of a judging, refused and not
 --     sets_asked, count_is                    what the registers are asked by, and that the lines have space
---     few_nodes_32, text_widen, loaded_text   the rule in its table of the second form, and what was loaded
+--     loaded_text                             the lows and the highs as they were loaded
 --     file_no, file_few, file_judged          the text of a file
---     loaded_few, picture_is                  and of the rule as it was loaded
+--     picture_is                              and of the rule as it was loaded
 -- Assumes nothing.
-use mathlib.Core.Path.{◌≡◌, refl, sym, ap, ap₂, ◌∙◌}
+use mathlib.Core.Path.{◌≡◌, sym, ap, ap₂, ◌∙◌}
 use mathlib.Core.Bool.{true, false}
 use mathlib.Core.List.{List, ◌++◌}
 use Prim.Native.Nat.{ℕ, ◌+◌, ◌*◌, ◌≤◌, ◌<◌}
 use native.Mathlib.Omega.{arith}
 use lib.ListN.{length, get_or, take, drop, replicate, get_or-append, length-replicate}
+use lib.Seq.{length-take-le, get_or-take}
 use borrow.Author.Tests.{le-leb}
 use Rattle.spec.specs.Ascii.{ascii}
-use Rattle.spec.specs.Questions.{Answer, passed, refused, Checked, ◌then◌}
-use Rattle.spec.specs.Rule.{Form, form32, form64, Table, table_of, rule_of, check_rule}
-use Rattle.spec.specs.Judging.{state_count, states_of, question14, question15}
+use Rattle.spec.specs.Questions.{Answer, passed, refused, ◌then◌}
+use Rattle.spec.specs.Rule.{Form, form32, check_rule}
+use Rattle.spec.specs.Judging.{state_count}
 use Rattle.spec.proofs.QuestionLaws.{both_passed, once_in}
 use Rattle.sets.specs.Sets.{set_of}
-use Rattle.moves.specs.Moves.{widen_rule}
-use Rattle.moves.proofs.NodeMoveLaws.{table_widen, check_widen}
 use Rattle.print.specs.Decimal.{newline, number, refused_text}
 use Rattle.print.specs.Written.{Added}
 use Rattle.print.proofs.AddedLaws.{each_same, loaded, front_is}
-use Rattle.intervals.specs.Limits.{Truth₃, truth_at, rule_truth, question22, question13, question23, check_limits, limiting, byte_of, bytes_for, answers_for, limits_output}
-use Rattle.intervals.specs.Reasons.{reason_at, depends_on}
+use Rattle.intervals.specs.Limits.{Truth₃, rule_truth, question13, check_limits, limiting, byte_of, bytes_for, answers_for, limits_output}
 use Rattle.intervals.proofs.LimitsLaws.{length_bytes, byte_at}
 use Rattle.reasons.specs.Written.{RegistersPut}
 use Rattle.words.specs.Words.{word_at}
 use Rattle.words.specs.Counted.{counted}
-use Rattle.words.proofs.CountedLaws.{length_counted}
-use Rattle.spec.proofs.RuleLaws.{rule_out}
 use Rattle.picture.specs.File.{is_whole, limits_from, lows_in, highs_in}
 use Rattle.picture.specs.Lines.{index_text, lines_text}
 use Rattle.picture.specs.Picture.{answer_text, limits_text, too_few, file_text, picture_of}
@@ -76,50 +72,26 @@ module _ (form : Form) (rule lows highs : List ℕ) where
           ap (λ l. get_or l i 0) (d ∙ ap (λ a. answers_for f a out) (sym e))
           ∙ get_or-append (bytes_for f n) (drop n out) 0 i (let l = length_bytes f n in omega arith) ∙ byte_at f n i h 0
 
-      pub limits_yes : (after : List ℕ) → after ≡ limits_output form rule lows highs out → (before sets : List ℕ) → RegistersPut form rule lows highs before sets
-          → lines_text n (λ i. get_or after i 0) (λ i. set_of (get_or sets i 0)) ≡ limits_text form rule lows highs
+      pub limits_yes : (after : List ℕ) → after ≡ limits_output form rule lows highs out → n ≤ length after → (before sets : List ℕ)
+          → RegistersPut form rule lows highs before sets
+          → lines_text (length (take n after)) (λ i. get_or (take n after) i 0) (λ i. set_of (get_or sets i 0)) ≡ limits_text form rule lows highs
       unfolding lines_text
-      limits_yes after d before sets r =
-          ap (λ l. ascii "indices " ++ number n newline ++ l)
-          (each_same _ _ n (λ i h. ap₂ (index_text i) (answer_at after d i h) (r.each i (let c = count_is in omega arith))))
+      limits_yes after d long before sets r =
+          ap (λ m. lines_text m (λ i. get_or (take n after) i 0) (λ i. set_of (get_or sets i 0))) (length-take-le n after long)
+          ∙ ap (λ l. ascii "indices " ++ number n newline ++ l)
+          (each_same _ _ n (λ i h. ap₂ (index_text i) (get_or-take n after i 0 h ∙ answer_at after d i h) (r.each i (let c = count_is in omega arith))))
           ∙ text_by_lem (passed n) e
 
--- ---- the rule in its table of the second form
+-- ---- the lows and the highs as they were loaded
 
-pub few_nodes_32 : (rule : List ℕ) → check_rule form32 rule ≡ passed tt → length rule ≤ 32
-unfolding form32
-few_nodes_32 rule accepted = (rule_out form32 rule accepted).few_nodes
-
-module _ (lows highs : List ℕ) where
-  -- the text by the table
-  text_by : Table → Answer ℕ → List ℕ
-  text_by t (passed n) = lines_text n (λ i. byte_of (truth_at (states_of lows) (states_of highs) (rule_of t) i)) (λ i. (reason_at (states_of lows) (states_of highs) (rule_of t) i).registers)
-  text_by t (refused q i) = refused_text q i
-
-  by_table : (form : Form) (rule : List ℕ) (a : Answer ℕ) → answer_text form rule lows highs a ≡ text_by (table_of form rule) a
-  unfolding text_by rule_truth depends_on
-  by_table form rule (passed n) = refl
-  by_table form rule (refused q i) = refl
-
-  pub text_widen : (rule : List ℕ) → length rule ≤ 32 → limits_text form64 (widen_rule rule) lows highs ≡ limits_text form32 rule lows highs
-  unfolding limits_text limiting check_limits
-  text_widen rule few =
-      let c = check_widen rule few in
-      let t = table_widen rule in
-      by_table form64 (widen_rule rule) _
-      ∙ ap₂ (λ (u : Table) (q : Checked). text_by u ((q then question14 lows then question14 highs then question22 lows highs
-      then question13 lows (replicate (state_count lows) 0) then question15 lows then question15 highs then question23 lows highs) then passed (state_count lows))) t c
-      ∙ sym (by_table form32 rule _)
-
--- what was loaded: the table, the lows and the highs
-pub loaded_text : (rule table bytes lows highs l₀ h₀ : List ℕ) (at n : ℕ) → check_rule form32 rule ≡ passed tt → n ≡ word_at bytes at → take (length rule) table ≡ widen_rule rule
+pub loaded_text : (rule bytes lows highs l₀ h₀ : List ℕ) (at n : ℕ) → n ≡ word_at bytes at
     → Added (limits_from bytes (4 * at + 4) 0 (16 * n)) 0 (16 * n) l₀ lows → Added (limits_from bytes (4 * at + 4) 16 (16 * n)) 0 (16 * n) h₀ highs
-    → limits_text form64 (take (length rule) table) (take (16 * n) lows) (take (16 * n) highs) ≡ limits_text form32 rule (lows_in bytes at) (highs_in bytes at)
+    → limits_text form32 rule (take (16 * n) lows) (take (16 * n) highs) ≡ limits_text form32 rule (lows_in bytes at) (highs_in bytes at)
 unfolding lows_in highs_in
-loaded_text rule table bytes lows highs l₀ h₀ at n accepted e held l h =
+loaded_text rule bytes lows highs l₀ h₀ at n e l h =
     let a = front_is _ (16 * n) l₀ lows l ∙ ap (λ m. limits_from bytes (4 * at + 4) 0 (16 * m)) e in
     let b = front_is _ (16 * n) h₀ highs h ∙ ap (λ m. limits_from bytes (4 * at + 4) 16 (16 * m)) e in
-    (λ i. limits_text form64 (held i) (a i) (b i)) ∙ text_widen (lows_in bytes at) (highs_in bytes at) rule (few_nodes_32 rule accepted)
+    λ i. limits_text form32 rule (a i) (b i)
 
 -- ---- the text of a file
 
@@ -140,9 +112,6 @@ module _ (rule bytes : List ℕ) (at : ℕ) where
 -- ---- the rule as it was loaded
 
 module _ (bytes : List ℕ) (n : ℕ) (before rule : List ℕ) (loaded-rule : Added (counted 32 bytes 0) 0 n before rule) where
-  pub loaded_few : n ≤ 32
-  loaded_few = let e = loaded _ n before rule loaded-rule in let m = length_counted 32 bytes 0 in omega arith
-
   pub picture_is : file_text (take n rule) bytes (n + 1) ≡ picture_of bytes
   unfolding picture_of form32
   picture_is =

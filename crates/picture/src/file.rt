@@ -5,12 +5,6 @@ ghost use Rattle.picture.specs.File.{is_whole, number_at, limits_from};
 
 use words::word_at;
 
-fn wide(b: u8) -> u16
-    ensures { (result ≡ b) × (result < 256) }
-{
-    b as u16
-}
-
 // Whether there are no more indices than a file may have here, and the bytes of each are there. The index count is word `at`.
 pub(crate) fn is_whole(bytes: &[u8], at: usize) -> bool
     requires { at ≤ 100 }
@@ -28,7 +22,7 @@ fn number_at(bytes: &[u8], i: usize) -> u16
     requires { i + 1 < length bytes.now }
     ensures { result ≡ number_at bytes.now i }
 {
-    wide(bytes[i]) * 256 + wide(bytes[i + 1])
+    u16::from_be_bytes([bytes[i], bytes[i + 1]])
 }
 
 // The lows (`first` is 0) or the highs (16) of so many indices, of the limits from byte `at` on, at the start of the output.
@@ -36,10 +30,7 @@ pub(crate) fn load_limits(bytes: &[u8], at: usize, first: usize, count: usize, o
     requires { (first ≤ 16) × (count ≤ 1000) × (at ≤ 1000000) × (at + 64 * count ≤ length bytes.now) × (16 * count ≤ length out.old) }
     ensures { Added (limits_from bytes.now at first (16 * count)) 0 (16 * count) out.old out.new }
 {
-    let n = 16 * count;
-    let mut j: usize = 0;
-    while j < n {
+    for j in 0..16 * count {
         out[j] = number_at(bytes, at + 2 * (32 * (j / 16) + first + j % 16));
-        j += 1;
     }
 }

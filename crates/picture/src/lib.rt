@@ -2,52 +2,44 @@
 #![tactic(auto)]
 
 ghost use Rattle.std.specs.Prelude.{◌≡◌, true, ◌++◌, ◌≤◌, length, drop};
-ghost use Rattle.spec.specs.Questions.{passed};
-ghost use Rattle.spec.specs.Rule.{form32, check_rule};
-ghost use Rattle.rule.specs.Nodes.{form_in};
+ghost use Rattle.spec.specs.Rule.{form32};
 ghost use Rattle.print.specs.Written.{Added};
 ghost use Rattle.picture.specs.File.{is_whole, lows_in, highs_in};
 ghost use Rattle.picture.specs.Picture.{limits_text, file_text, picture_of};
 
 use crate::file::{is_whole, load_limits};
 use crate::lines::put_lines;
-use limits::judge64;
+use limits::judge;
 use print::{add_bytes, add_refused};
 use reasons::put_registers;
-use rule::answer::{Answer, Counted};
 use rule::check_rule;
-use rule::stored::widen_rule;
 use words::counted::load_counted;
 use words::word_at;
 
 mod file;
 mod lines;
 
-// A rule of the second form judged on limits, at the start of the output.
-fn put_limits(rule: &[u64], lows: &[u16], highs: &[u16], out: &mut [u8]) -> usize
+// A rule judged on limits, at the start of the output.
+fn put_limits(rule: &[u32], lows: &[u16], highs: &[u16], out: &mut [u8]) -> usize
     requires { (length lows.now ≤ 16000) × (74013 ≤ length out.old) }
-    ensures { Added (limits_text form_in rule.now lows.now highs.now) 0 result out.old out.new }
+    ensures { Added (limits_text form32 rule.now lows.now highs.now) 0 result out.old out.new }
 {
     let mut answers = [0u8; 1000];
-    let judged = judge64(rule, lows, highs, &mut answers);
-    match judged {
-        Counted::Refused { question, place } => add_refused(question, place, 0, out),
-        Counted::Count(n) => {
+    match judge(rule, lows, highs, &mut answers) {
+        Err(refusal) => add_refused(u32::from(refusal.question), refusal.place, 0, out),
+        Ok(n) => {
             let mut sets = [0u64; 1000];
             put_registers(rule, lows, highs, &mut sets);
-            put_lines(&answers, &sets, n, out)
+            put_lines(&answers[..n], &sets, out)
         }
     }
 }
 
-// An accepted rule of the old form judged on the limits that stand after the index count, word `at`.
+// A rule judged on the limits that stand after the index count, word `at`.
 fn put_indices(rule: &[u32], bytes: &[u8], at: usize, out: &mut [u8]) -> usize
-    requires { (check_rule form32 rule.now ≡ passed tt) × (at ≤ 100) × (is_whole bytes.now at ≡ true) × (74013 ≤ length out.old) }
+    requires { (at ≤ 100) × (is_whole bytes.now at ≡ true) × (74013 ≤ length out.old) }
     ensures { Added (limits_text form32 rule.now (lows_in bytes.now at) (highs_in bytes.now at)) 0 result out.old out.new }
 {
-    let mut table = [0u64; 32];
-    widen_rule(rule, &mut table);
-    let nodes = rule.len();
     let count = word_at(bytes, at) as usize;
     let start = 4 * at + 4;
     let mut lows = [0u16; 16000];
@@ -55,7 +47,7 @@ fn put_indices(rule: &[u32], bytes: &[u8], at: usize, out: &mut [u8]) -> usize
     let mut highs = [0u16; 16000];
     load_limits(bytes, start, 16, count, &mut highs);
     let n = 16 * count;
-    put_limits(&table[..nodes], &lows[..n], &highs[..n], out)
+    put_limits(rule, &lows[..n], &highs[..n], out)
 }
 
 // What follows the rule: its index count is word `at`.
@@ -63,9 +55,8 @@ fn put_file(rule: &[u32], bytes: &[u8], at: usize, out: &mut [u8]) -> usize
     requires { (at ≤ 100) × (74013 ≤ length out.old) }
     ensures { Added (file_text rule.now bytes.now at) 0 result out.old out.new }
 {
-    let checked = check_rule(rule);
-    if let Answer::Refused { question, place } = checked {
-        return add_refused(question, place, 0, out);
+    if let Err(refusal) = check_rule(rule) {
+        return add_refused(u32::from(refusal.question), refusal.place, 0, out);
     }
     if !is_whole(bytes, at) {
         return add_bytes(

@@ -25,10 +25,8 @@ fn add_registers(on: u64, at: usize, out: &mut [u8]) -> usize
     ensures { Filled 64 (registers_text (set_of on)) at result out.old out.new }
 {
     let mut end = at;
-    let mut r: usize = 0;
-    while r < 16 {
+    for r in 0..16 {
         end = add_register(on, r, end, out);
-        r += 1;
     }
     end
 }
@@ -38,13 +36,11 @@ fn add_answer(answer: u8, at: usize, out: &mut [u8]) -> usize
     requires { at + 5 ≤ length out.old }
     ensures { Filled 5 (answer_word answer) at result out.old out.new }
 {
-    if answer == 0 {
-        return add_bytes(b"false", at, out);
+    match answer {
+        0 => add_bytes(b"false", at, out),
+        1 => add_bytes(b"true", at, out),
+        _ => add_bytes(b"open", at, out),
     }
-    if answer == 1 {
-        return add_bytes(b"true", at, out);
-    }
-    add_bytes(b"open", at, out)
 }
 
 // For a breach or an open one, the registers that it depends on.
@@ -69,26 +65,24 @@ fn add_index(i: usize, answer: u8, on: u64, at: usize, out: &mut [u8]) -> usize
     add_bytes(b"\n", end, out)
 }
 
-// The lines of the first n indices.
-fn add_indices(answers: &[u8], sets: &[u64], n: usize, at: usize, out: &mut [u8]) -> usize
-    requires { (n ≤ 1000) × (n ≤ length answers.now) × (n ≤ length sets.now) × (at + 74 * n ≤ length out.old) }
-    ensures { Filled (74 * n) (each_of (λ i. index_text i (get_or answers.now i 0) (set_of (get_or sets.now i 0))) n) at result out.old out.new }
+// The lines of the indices, one for each answer.
+fn add_indices(answers: &[u8], sets: &[u64], at: usize, out: &mut [u8]) -> usize
+    requires { (length answers.now ≤ 1000) × (length answers.now ≤ length sets.now) × (at + 74 * length answers.now ≤ length out.old) }
+    ensures { Filled (74 * length answers.now) (each_of (λ i. index_text i (get_or answers.now i 0) (set_of (get_or sets.now i 0))) (length answers.now)) at result out.old out.new }
 {
     let mut end = at;
-    let mut i: usize = 0;
-    while i < n {
-        end = add_index(i, answers[i], sets[i], end, out);
-        i += 1;
+    for (i, answer) in answers.iter().enumerate() {
+        end = add_index(i, *answer, sets[i], end, out);
     }
     end
 }
 
 // A header with the count, then the lines.
-pub(crate) fn put_lines(answers: &[u8], sets: &[u64], n: usize, out: &mut [u8]) -> usize
-    requires { (n ≤ 1000) × (n ≤ length answers.now) × (n ≤ length sets.now) × (74013 ≤ length out.old) }
-    ensures { Added (lines_text n (λ i. get_or answers.now i 0) (λ i. set_of (get_or sets.now i 0))) 0 result out.old out.new }
+pub(crate) fn put_lines(answers: &[u8], sets: &[u64], out: &mut [u8]) -> usize
+    requires { (length answers.now ≤ 1000) × (length answers.now ≤ length sets.now) × (74013 ≤ length out.old) }
+    ensures { Added (lines_text (length answers.now) (λ i. get_or answers.now i 0) (λ i. set_of (get_or sets.now i 0))) 0 result out.old out.new }
 {
     let count_at = add_bytes(b"indices ", 0, out);
-    let lines_at = add_number(n, b'\n', count_at, out);
-    add_indices(answers, sets, n, lines_at, out)
+    let lines_at = add_number(answers.len(), b'\n', count_at, out);
+    add_indices(answers, sets, lines_at, out)
 }

@@ -1,5 +1,5 @@
 -- Index after index: what the answers depend on.
---     Told, told_start, told_next, told_end      a loop over the indices
+--     Told, told_start, told_next      a loop over the indices
 -- Assumes nothing.
 use mathlib.Core.Path.{◌≡◌, refl, sym, ap, subst, ◌∙◌}
 use mathlib.Core.Logic.{inl, inr}
@@ -25,7 +25,6 @@ use Rattle.limits.specs.Monitor.{NodeValues, Now, now_at, first_cans}
 use Rattle.limits.proofs.MonitorLaws.{PriorsAt}
 use Rattle.limits.proofs.AnswerLaws.{start_here, values_here, priors_here}
 use Rattle.reasons.specs.Registers.{registers_at, sets_in}
-use Rattle.reasons.specs.Written.{RegistersPut}
 use Rattle.reasons.proofs.RegisterLaws.{next_few, node_reason, EarlierAt, earlier_first, registers_here, earlier_next}
 
 -- an array that was made of zeros
@@ -110,6 +109,3 @@ module _ (rule lows highs : List ℕ) where
               rest = drop-set-lt (state_count lows) out i v h ∙ w.rest;
               kept = length-set out i v ∙ w.kept;
             })
-
-    pub told_end : (i : ℕ) (p : NodeValues) (es out : List ℕ) → state_count lows ≤ i → Told before i p es out → RegistersPut form_in rule lows highs before out
-    told_end i p es out h w = record { each = λ j l. w.each j (omega arith); rest = w.rest }

@@ -2,3 +2,4 @@
 pub mod ReasonLaws
 pub mod RegisterLaws
 pub mod IndexLaws
+pub mod SecondLaws

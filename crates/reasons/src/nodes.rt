@@ -50,28 +50,19 @@ fn node_registers(
 {
     match x {
         Node::False => 0,
-        Node::Equal {
-            register,
-            constant: _,
-        } => with(0, register),
-        Node::Below {
-            register,
-            constant: _,
-        } => with(0, register),
+        Node::Equal { register, .. } | Node::Below { register, .. } => with(0, register),
         Node::Implies { left, right } => {
             let l = reason_at(values, registers, left);
             let r = reason_at(values, registers, right);
-            let a = either(opposite(l), r);
-            a.registers
+            either(opposite(l), r).registers
         }
         Node::Since { left, right } => {
             let l = reason_at(values, registers, left);
             let r = reason_at(values, registers, right);
             let p = reason_at(priors, earlier, k);
-            let a = either(r, both(l, p));
-            a.registers
+            either(r, both(l, p)).registers
         }
-        Node::WeakPrevious { left: _ } => earlier[k],
+        Node::WeakPrevious { .. } => earlier[k],
         Node::EqualRegisters { register, other } => compared(register, other),
     }
 }
@@ -87,10 +78,8 @@ pub(crate) fn registers_at(
     ensures { (k : ℕ) → k < length rule.now → sets_in result k ≡ registers_at (table_in rule.now) (cans_of values) (cans_of priors) (sets_in earlier) k }
 {
     let mut registers = [0u64; 64];
-    let mut k = 0;
-    while k < rule.len() {
-        registers[k] = node_registers(read_node(rule[k]), k, values, priors, &registers, &earlier);
-        k += 1;
+    for (k, &word) in rule.iter().enumerate() {
+        registers[k] = node_registers(read_node(word), k, values, priors, &registers, &earlier);
     }
     registers
 }
@@ -101,10 +90,8 @@ pub(crate) fn earlier_after(rule: &[u64], registers: [u64; 64]) -> [u64; 64]
     ensures { (k : ℕ) → k < length rule.now → sets_in result k ≡ sets_in registers (next_of (table_in rule.now) k) }
 {
     let mut earlier = [0u64; 64];
-    let mut k = 0;
-    while k < rule.len() {
+    for k in 0..rule.len() {
         earlier[k] = registers[next_of(rule, k)];
-        k += 1;
     }
     earlier
 }

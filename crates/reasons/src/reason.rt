@@ -21,7 +21,7 @@ pub fn opposite(a: Reason) -> Reason
     Reason {
         yes: a.no | !a.yes,
         no: a.yes,
-        registers: a.registers,
+        ..a
     }
 }
 

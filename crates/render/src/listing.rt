@@ -4,7 +4,6 @@ ghost use Rattle.render.specs.Listing.{woven_text, listing_of};
 
 use crate::text::put_lines;
 use print::add_refused;
-use rule::answer::Counted;
 use weaver::weave;
 use words::counted::load_counted;
 
@@ -14,10 +13,9 @@ fn list_woven(rule: &[u32], bare: &[u32], out: &mut [u8; 32768]) -> usize
         × (out.new ≡ woven_text rule.now bare.now ++ drop result out.old) }
 {
     let mut words = [0u32; 8192];
-    let woven = weave(rule, bare, &mut words);
-    match woven {
-        Counted::Refused { question, place } => add_refused(question, place, 0, out),
-        Counted::Count(n) => put_lines(&words, n, out),
+    match weave(rule, bare, &mut words) {
+        Err(no) => add_refused(u32::from(no.question), no.place, 0, out),
+        Ok(n) => put_lines(&words, n, out),
     }
 }
 

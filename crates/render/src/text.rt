@@ -26,10 +26,8 @@ fn add_lines(words: &[u32], n: usize, at: usize, out: &mut [u8]) -> usize
     ensures { Added (lines_text words.now n) at result out.old out.new }
 {
     let mut end = at;
-    let mut l: usize = 0;
-    while l < n {
+    for l in 0..n {
         end = add_line(l, words[8 * l], end, out);
-        l += 1;
     }
     end
 }

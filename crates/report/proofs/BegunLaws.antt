@@ -1,16 +1,21 @@
 -- Words that have begun before a place (`specs/Compiled.antt`).
---     letters_start, letters_next, letters_stop, letters_out, letters_end      how many letters stand just before the place, one after another
+--     letters_last, letters_few, letters_out      how many letters stand just before the place: none beyond the end of the text
 --     begun_all, begun_other, begun_is       whether a candidate has begun
 --     begun_begins                           some text of the grammar goes on with the rest of one that has
 -- Assumes nothing.
-use mathlib.Core.Path.{◌≡◌, sym, ap, subst, ◌∙◌}
+use mathlib.Core.Path.{◌≡◌, refl, sym, ap, subst, ◌∙◌}
 use mathlib.Core.Logic.{◌≢◌}
 use mathlib.Core.Bool.{Bool, true, false, cond, ◌&&◌}
-use mathlib.Core.List.{List, ◌++◌, append_assoc}
-use Prim.Native.Nat.{ℕ, suc, ◌+◌, ◌-◌, ◌≤◌, ◌<◌}
+use mathlib.Core.List.{List, [], ◌∷◌, ◌++◌, append_assoc}
+use Prim.Native.Nat.{ℕ, zero, suc, ◌+◌, ◌≤◌, ◌<◌}
 use native.Mathlib.Omega.{arith}
 use lib.ListN.{length, get_or, take, drop, take-append-drop, get_or-eq_default}
-use lib.Seq.{take-add}
+use lib.Seq.{take-add, take-suc, length-take-le}
+use Rattle.std.proofs.Common.{reverse, take_while}
+use Rattle.std.proofs.lemmas.List.{reverse-append, length-reverse}
+use Rattle.std.proofs.lemmas.List.Folds.{length-prefix_len}
+use Rattle.std.proofs.lemmas.List.Sums.{prefix_len-le-length}
+use Rattle.std.specs.List.{prefix_len}
 use lib.Dec.{eqb, ltb}
 use borrow.Author.Tests.{lt-ltb, le-ltb, eq-eqb, ne_eqb, eqb-true}
 use Rattle.spec.proofs.BoolLaws.{and_both}
@@ -21,41 +26,29 @@ use Rattle.report.proofs.StandLaws.{Begins, stands_begins}
 
 -- ---- letters just before a place
 
-letter_here : (text : List ℕ) (i : ℕ) → is_letter (get_or text i 0) ≡ true → letters_before text (suc i) ≡ suc (letters_before text i)
-unfolding letters_before
-letter_here text i h = ap (λ b. cond b (suc (letters_before text i)) 0) h
-
-other_here : (text : List ℕ) (i : ℕ) → is_letter (get_or text i 0) ≡ false → letters_before text (suc i) ≡ 0
-unfolding letters_before
-other_here text i h = ap (λ b. cond b (suc (letters_before text i)) 0) h
-
-module _ (text : List ℕ) (place : ℕ) where
-  pub letters_start : letters_before text place ≡ 0 + letters_before text (place - 0)
-  letters_start = let z : place ≡ place - 0 = omega arith in let y = ap (letters_before text) z in omega arith
-
-  module _ (n : ℕ) (inside : n < place) (e : letters_before text place ≡ n + letters_before text (place - n)) where
-    here : letters_before text (place - n) ≡ letters_before text (suc (place - n - 1))
-    here = let z : place - n ≡ suc (place - n - 1) = omega arith in ap (letters_before text) z
-
-    pub letters_next : is_letter (get_or text (place - n - 1) 0) ≡ true → letters_before text place ≡ n + 1 + letters_before text (place - (n + 1))
-    letters_next h =
-        let z : place - n - 1 ≡ place - (n + 1) = omega arith in
-        let y = here ∙ letter_here text (place - n - 1) h in
-        let x = ap (letters_before text) z in
-        omega arith
-
-    pub letters_stop : is_letter (get_or text (place - n - 1) 0) ≡ false → n ≡ letters_before text place
-    letters_stop h = let y = here ∙ other_here text (place - n - 1) h in omega arith
-
-    pub letters_out : length text ≤ place - n - 1 → n ≡ letters_before text place
-    letters_out h = letters_stop (ap is_letter (get_or-eq_default text 0 h))
-
-  pub letters_end : (n : ℕ) → n ≤ place → place ≤ n → letters_before text place ≡ n + letters_before text (place - n) → n ≡ letters_before text place
+module _ (text : List ℕ) where
+  letters_prefix : (n : ℕ) → n ≤ length text → prefix_len is_letter (reverse (take n text)) ≡ letters_before text n
   unfolding letters_before
-  letters_end n few h e =
-      let z : place - n ≡ 0 = omega arith in
-      let y : letters_before text (place - n) ≡ 0 = ap (letters_before text) z in
-      omega arith
+  letters_prefix zero h = refl
+  letters_prefix (suc n) h =
+      let e = letters_prefix n (omega arith) in
+      let m : 1 + prefix_len is_letter (reverse (take n text)) ≡ suc (letters_before text n) = omega arith in
+      ap (λ l. prefix_len is_letter l) (ap reverse (take-suc text n 0 (omega arith)) ∙ reverse-append (take n text) (get_or text n 0 ∷ []))
+      ∙ ap (λ k. cond (is_letter (get_or text n 0)) k 0) m
+
+  pub letters_last : (place : ℕ) → place ≤ length text → length (take_while is_letter (reverse (take place text))) ≡ letters_before text place
+  letters_last place h = length-prefix_len is_letter (reverse (take place text)) ∙ letters_prefix place h
+
+  pub letters_few : (place : ℕ) → place ≤ length text → letters_before text place ≤ place
+  letters_few place h =
+      let e = letters_prefix place h in
+      let f = prefix_len-le-length is_letter (reverse (take place text)) in
+      omega (arith, length-reverse (take place text), length-take-le place text h)
+
+  pub letters_out : (place : ℕ) → length text < place → 0 ≡ letters_before text place
+  unfolding letters_before
+  letters_out zero h = refl
+  letters_out (suc i) h = sym (ap (λ b. cond (is_letter b) (suc (letters_before text i)) 0) (get_or-eq_default text 0 (omega arith)))
 
 -- ---- candidates that have begun
 

@@ -1,21 +1,24 @@
 -- The words for what may stand at a place (`specs/Compiled.antt`).
 --     item_stands, item_not        one of them, where it may stand and where not
---     candidate_at, item_at, above, candidate_count      the candidate of a number
---     items_start, items_next, items_end      one after another
+--     short_at, pair_at, each_begins, each_goes_on      one after another
 --     expected_none, expected_some      within a word, and elsewhere
 -- Assumes nothing.
 use mathlib.Core.Path.{◌≡◌, refl, sym, ap, subst}
-use mathlib.Core.Logic.{◌≢◌, inl, inr}
-use mathlib.Core.Bool.{Bool, true, false, cond}
-use mathlib.Core.List.{List, [], ◌∷◌, ◌++◌}
-use Prim.Native.Nat.{ℕ, suc, ◌+◌, ◌-◌, ◌*◌, ◌≤◌}
+use mathlib.Core.Logic.{◌≢◌}
+use mathlib.Core.Bool.{Bool, true, false, cond, ◌&&◌}
+use mathlib.Core.List.{List, [], ◌∷◌, ◌++◌, map}
+use Prim.Native.Nat.{ℕ, zero, suc, ◌+◌, ◌-◌, ◌*◌, ◌≤◌, ◌<◌}
 use native.Mathlib.Omega.{arith}
 use lib.ListN.{length, get_or, length-append}
-use Rattle.spec.proofs.BoolLaws.{le_or_lt}
+use lib.Dec.{leb}
+use borrow.Author.Tests.{leb-true}
+use denote.Bor.{Bor}
+use Rattle.std.proofs.lemmas.List.{get_or-map}
+use Rattle.spec.proofs.BoolLaws.{and_both}
 use Rattle.print.specs.Decimal.{space}
 use Rattle.print.specs.Written.{Added, Filled}
 use Rattle.print.proofs.AddedLaws.{added_none, filled_as, filled_is, filled_last, each_start, each_next}
-use Rattle.report.specs.Compiled.{Candidate, itself, candidates, item_text, items_text, letters_before, or_else, expected_items}
+use Rattle.report.specs.Compiled.{Candidate, itself, candidates, candidate_of, all_short, item_text, each_text, items_text, letters_before, or_else, expected_items}
 
 -- ---- one
 
@@ -29,37 +32,38 @@ item_not b shown at o e = filled_is (ap (λ c. cond c (space ∷ shown) []) (sym
 abbrev pub candidate_at : ℕ → Candidate
 candidate_at k = get_or candidates k (itself [])
 
-pub item_at : (text : List ℕ) (start typed k j : ℕ) {at end : ℕ} {o o1 : List ℕ} → k ≡ j
-    → Filled 9 (item_text text start typed (candidate_at j)) at end o o1 → Filled 9 (item_text text start typed (candidate_at k)) at end o o1
-item_at text start typed k j e x = filled_is (ap (λ n. item_text text start typed (candidate_at n)) (sym e)) x
-
--- a number that is none of the first
-pub above : (k j : ℕ) → j ≤ k → k ≢ j → suc j ≤ k
-above k j h n = elim (le_or_lt k j) [ inl l ↦ absurd (n (omega arith)) | inr l ↦ l ]
-
-pub candidate_count : length candidates ≡ 18
-unfolding candidates
-candidate_count = refl
-
 -- ---- one after another
 
-module _ (text : List ℕ) (start typed at : ℕ) (o : List ℕ) where
+abbrev no_bytes : Bor (List ℕ)
+no_bytes = record { ref_ptr = (0, 0); now = [] }
+
+pub short_at : (cs : List Candidate) (k : ℕ) → k < length cs → all_short cs ≡ true
+    → (length (get_or cs k (itself [])).tried ≤ 8) × (length (get_or cs k (itself [])).shown ≤ 8)
+short_at [] k h e = absurd (omega arith)
+short_at (c ∷ cs) zero h e =
+    let (both, rest) = and_both _ (all_short cs) e in
+    let (t, s) = and_both (leb (length c.tried) 8) (leb (length c.shown) 8) both in
+    (leb-true (length c.tried) 8 t, leb-true (length c.shown) 8 s)
+short_at (c ∷ cs) (suc k) h e = short_at cs k (omega arith) (and_both (leb (length c.tried) 8 && leb (length c.shown) 8) (all_short cs) e).1
+
+module _ (text : List ℕ) (start typed at : ℕ) (o : List ℕ) (ps : List (Bor (List ℕ) × Bor (List ℕ))) where
   abbrev item : ℕ → List ℕ
-  item k = item_text text start typed (candidate_at k)
+  item k = item_text text start typed (get_or (map candidate_of ps) k (itself []))
 
-  pub items_start : Filled (9 * 0) (items_text text start typed 0) at at o o
-  unfolding items_text
-  items_start = each_start item 9 at o
+  pub pair_at : (k : ℕ) → k < length ps → candidate_of (get_or ps k (no_bytes, no_bytes)) ≡ get_or (map candidate_of ps) k (itself [])
+  pair_at k h = sym (get_or-map candidate_of ps k (no_bytes, no_bytes) (itself []) h)
 
-  pub items_next : (k end end2 : ℕ) (o1 o2 : List ℕ) → at + 9 * (k + 1) ≤ length o → Filled (9 * k) (items_text text start typed k) at end o o1
-      → Filled 9 (item k) end end2 o1 o2 → Filled (9 * (k + 1)) (items_text text start typed (k + 1)) at end2 o o2
-  unfolding items_text
-  items_next k end end2 o1 o2 room x y = each_next item 9 at o k end end2 o1 o2 room x y
+  pub each_begins : Filled (9 * 0) (each_text text start typed (map candidate_of ps) 0) at at o o
+  unfolding each_text
+  each_begins = each_start item 9 at o
 
-  pub items_end : (k end : ℕ) (o1 : List ℕ) → k ≡ 18 → Filled (9 * k) (items_text text start typed k) at end o o1
-      → Filled 162 (items_text text start typed (length candidates)) at end o o1
-  items_end k end o1 e x =
-      filled_is (ap (items_text text start typed) (sym candidate_count)) (subst (λ n. Filled (9 * n) (items_text text start typed n) at end o o1) e x)
+  pub each_goes_on : (k end end2 : ℕ) (o1 o2 : List ℕ) → k < length ps → at + 9 * (k + 1) ≤ length o
+      → Filled (9 * k) (each_text text start typed (map candidate_of ps) k) at end o o1
+      → Filled 9 (item_text text start typed (candidate_of (get_or ps k (no_bytes, no_bytes)))) end end2 o1 o2
+      → Filled (9 * (k + 1)) (each_text text start typed (map candidate_of ps) (k + 1)) at end2 o o2
+  unfolding each_text
+  each_goes_on k end end2 o1 o2 h room x y =
+      each_next item 9 at o k end end2 o1 o2 room x (filled_is (ap (item_text text start typed) (pair_at k h)) y)
 
 -- ---- where there is none
 

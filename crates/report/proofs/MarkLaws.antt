@@ -6,7 +6,7 @@
 use mathlib.Core.Path.{◌≡◌, refl, sym, ap, subst, ◌∙◌}
 use mathlib.Core.Logic.{◌⊎◌, inl, inr}
 use mathlib.Core.List.{List, [], ◌∷◌, ◌++◌, map}
-use Prim.Native.Nat.{ℕ, zero, suc, ◌+◌, ◌-◌, ◌≤◌, ◌<◌}
+use Prim.Native.Nat.{ℕ, min, zero, suc, ◌+◌, ◌-◌, ◌≤◌, ◌<◌}
 use native.Mathlib.Nat.{min-le_left}
 use native.Mathlib.Omega.{arith}
 use lib.ListN.{length, get_or, take, drop, set, replicate, length-take, length-drop, length-map}
@@ -49,8 +49,10 @@ module _ (text : List ℕ) (from n : ℕ) (inside : n ≤ length text - from) (a
       subst (λ y. Added (take (i + 1) (shown text from n)) at (at + (i + 1)) o (set o1 (at + i) y)) (shown_at i h ∙ sym e)
       (bytes_next (shown text from n) at o shown_room i o1 (omega arith) x)
 
-  pub shown_end : (i : ℕ) (o1 : List ℕ) → n ≤ i → Added (take i (shown text from n)) at (at + i) o o1 → Added (shown text from n) at (at + i) o o1
-  shown_end i o1 h x = let l = shown_length in bytes_end (shown text from n) at o shown_room i o1 (omega arith) x
+  pub shown_end : (i : ℕ) (o1 : List ℕ) → i ≡ n → Added (take i (shown text from n)) at (at + i) o o1 → Added (shown text from n) at (at + n) o o1
+  shown_end i o1 e x =
+      let l = shown_length in
+      subst (λ m. Added (shown text from n) at (at + m) o o1) e (bytes_end (shown text from n) at o shown_room i o1 (omega arith) x)
 
 -- the part that is shown
 pub shown_few : (text : List ℕ) (from n : ℕ) → length (shown text from n) ≤ n
@@ -60,16 +62,15 @@ shown_few text from n =
     let d = min-le_left n (length (drop from text)) in
     omega arith
 
-pub shown_all : (text : List ℕ) (place from n : ℕ) → from ≡ shown_from place → n ≤ 72 → (n < 72 → n ≡ length text - from)
+pub shown_all : (text : List ℕ) (place from n : ℕ) → from ≡ shown_from place → n ≡ min (length text - from) 72
     → shown text from n ++ (10 ∷ []) ≡ shown_text text place
 unfolding shown_text
-shown_all text place from n e few all =
+shown_all text place from n e few =
     ap (λ l. map visible l ++ (10 ∷ [])) (cut (le_or_lt 72 n)) ∙ ap (λ m. map visible (take 72 (drop m text)) ++ (10 ∷ [])) e
   where
     cut : (72 ≤ n) ⊎ (n < 72) → take n (drop from text) ≡ take 72 (drop from text)
     cut (inl h) = let z : n ≡ 72 = omega arith in ap (λ m. take m (drop from text)) z
     cut (inr h) =
-        let z = all h in
         let d = length-drop from text in
         take_all n (drop from text) (omega arith) ∙ sym (take_all 72 (drop from text) (omega arith))
 

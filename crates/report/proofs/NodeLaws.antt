@@ -1,19 +1,17 @@
 -- The nodes as text (`specs/Compiled.antt`).
 --     hex_text_lem, hex_length      a word of 32 bits has eight hexadecimal digits
---     node_at, nodes_all         the first words, one after another
+--     node_at, nodes_all         the words, one after another
 -- Assumes nothing.
-use mathlib.Core.Path.{◌≡◌, refl, sym, ap, ◌∙◌}
+use mathlib.Core.Path.{◌≡◌, refl, ap, ◌∙◌}
 use mathlib.Core.Logic.{inl, inr}
 use mathlib.Core.List.{List}
-use Prim.Native.Nat.{ℕ, ◌-◌, ◌≤◌, ◌<◌}
+use Prim.Native.Nat.{ℕ, ◌-◌, ◌<◌}
 use native.Mathlib.Nat.{pow-le-pow_right}
 use native.Mathlib.Omega.{arith}
-use lib.ListN.{length, get_or, take}
-use lib.Seq.{length-take-le, get_or-take}
+use lib.ListN.{length, get_or}
 use Rattle.io.specs.Digits.{last_digits, IsDigitCount}
 use Rattle.spec.proofs.BoolLaws.{le_or_lt}
 use Rattle.print.specs.Written.{each_of}
-use Rattle.print.proofs.AddedLaws.{each_same}
 use Rattle.report.specs.Compiled.{hex_text, node_text, nodes_text}
 
 hex_eight : (w k : ℕ) → w < 4294967296 → IsDigitCount 16 8 w k → k ≡ 8
@@ -34,8 +32,6 @@ hex_length w = refl
 abbrev pub node_at : List ℕ → ℕ → List ℕ
 node_at words k = node_text (get_or words k 0)
 
-pub nodes_all : (words : List ℕ) (n : ℕ) → n ≤ length words → each_of (node_at words) n ≡ nodes_text (take n words)
+pub nodes_all : (words : List ℕ) (n : ℕ) → n ≡ length words → each_of (node_at words) n ≡ nodes_text words
 unfolding nodes_text
-nodes_all words n h =
-    each_same (node_at words) (node_at (take n words)) n (λ k l. ap node_text (sym (get_or-take n words k 0 l)))
-    ∙ ap (each_of (node_at (take n words))) (sym (length-take-le n words h))
+nodes_all words n e = ap (each_of (node_at words)) e

@@ -7,7 +7,7 @@ use mathlib.Core.Path.{◌≡◌, refl, sym, ap, subst, ◌∙◌}
 use mathlib.Core.Logic.{◌⊎◌, inl, inr}
 use mathlib.Core.Bool.{true}
 use mathlib.Core.List.{List, [], ◌++◌, append-nil, append_assoc}
-use Prim.Native.Nat.{ℕ, suc, ◌+◌, ◌≤◌, ◌<◌}
+use Prim.Native.Nat.{ℕ, min, suc, ◌+◌, ◌≤◌, ◌<◌}
 use native.Mathlib.Omega.{arith}
 use lib.ListN.{length, take, drop, take-append-drop}
 use lib.Seq.{length-take-le, take_all}
@@ -29,21 +29,21 @@ use Rattle.report.specs.Compiled.{beyond, may_stand}
 
 -- the first n bytes are those before the place
 abbrev pub Before : List ℕ → (place n : ℕ) → Type 0
-Before text place n = (n ≤ place) × (n ≤ length text) × (n < place → n ≡ length text)
+Before text place n = n ≡ min place (length text)
 
 before_take : (text : List ℕ) (place n : ℕ) → Before text place n → take n text ≡ take place text
 before_take text place n b = go (le_or_lt place n)
   where
     go : (place ≤ n) ⊎ (n < place) → take n text ≡ take place text
-    go (inl h) = let z : n ≡ place = let l = b.0 in omega arith in ap (λ m. take m text) z
-    go (inr h) = let e = b.2 h in take_all n text (omega arith) ∙ sym (take_all place text (omega arith))
+    go (inl h) = let z : n ≡ place = omega arith in ap (λ m. take m text) z
+    go (inr h) = take_all n text (omega arith) ∙ sym (take_all place text (omega arith))
 
 module _ (text : List ℕ) (place n : ℕ) (b : Before text place n) where
   pub before_length : n ≡ length (take n text)
-  before_length = sym (length-take-le n text b.1)
+  before_length = sym (length-take-le n text (omega arith))
 
   pub front_room : (o : List ℕ) → length text ≤ 65000 → length o ≡ 65536 → 0 + length (take n text) ≤ length o
-  front_room o small large = let l = before_length in let i = b.1 in omega arith
+  front_room o small large = let l = before_length in omega arith
 
   -- then these
   module _ (bs : List ℕ) (start : ℕ) (o o1 : List ℕ) (small : length text ≤ 65000) (few : length bs ≤ 8) (large : length o ≡ 65536)
@@ -51,7 +51,6 @@ module _ (text : List ℕ) (place n : ℕ) (b : Before text place n) where
     pub next_room : start + length bs ≤ length o1
     next_room =
         let l = before_length in
-        let i = b.1 in
         let e = x.ends in
         let m = added_length (take n text) 0 start o o1 (front_room o small large) x in
         omega arith

@@ -1,6 +1,7 @@
 -- What the compile program prints for the bytes of its input: the nodes of a rule typed as text, or where the text went wrong and what may stand
 -- there (document 02, 2026-04).
 use Rattle.std.specs.Prelude.{Bool, true, cond, ◌&&◌, List, [], ◌∷◌, ◌++◌, map, ℕ, zero, suc, ◌-◌, length, get_or, take, drop, replicate, eqb, ltb, leb}
+use Rattle.std.specs.Borrow.{Bor}
 use Prim.Native.Char.{code}
 use Rattle.io.specs.Digits.{last_digits}
 use Rattle.spec.specs.Ascii.{ascii}
@@ -67,6 +68,15 @@ pub record Candidate : Type 0 where
   pub tried : List ℕ
   pub shown : List ℕ
 
+-- as the code has it
+abbrev pub candidate_of : Bor (List ℕ) × Bor (List ℕ) → Candidate
+candidate_of p = record { tried = p.0.now; shown = p.1.now }
+
+-- none has more than 8 bytes
+abbrev pub all_short : List Candidate → Bool
+all_short [] = true
+all_short (c ∷ cs) = (leb (length c.tried) 8 && leb (length c.shown) 8) && all_short cs
+
 abbrev pub itself : List ℕ → Candidate
 itself bs = record { tried = bs; shown = bs }
 
@@ -84,6 +94,9 @@ is_begun text i n bs = ltb n (length bs) && eqb (agreeing bs (drop i text)) n &&
 -- the words for those that are, each after a space
 abbrev pub item_text : List ℕ → (start typed : ℕ) → Candidate → List ℕ
 item_text text i n c = cond (is_begun text i n c.tried) (space ∷ c.shown) []
+
+unfoldable pub each_text : List ℕ → (start typed : ℕ) → List Candidate → (count : ℕ) → List ℕ
+each_text text i n cs m = each_of (λ k. item_text text i n (get_or cs k (itself []))) m
 
 unfoldable pub items_text : List ℕ → (start typed count : ℕ) → List ℕ
 items_text text i n m = each_of (λ k. item_text text i n (get_or candidates k (itself []))) m

@@ -1,30 +1,46 @@
 // What may stand at a place of a text: the words and signs with which a text of the grammar goes on.
-ghost use Rattle.std.specs.Prelude.{◌≡◌, cond, [], ◌∷◌, ◌+◌, ◌≤◌, ◌<◌, length, get_or};
+ghost use Rattle.std.specs.Prelude.{◌≡◌, true, cond, [], ◌∷◌, ◌+◌, ◌*◌, ◌≤◌, length, map, reverse, take_while};
 ghost use Rattle.print.specs.Decimal.{space};
 ghost use Rattle.print.specs.Written.{Filled};
-ghost use Rattle.report.specs.Compiled.{may_stand, itself, candidates, is_begun, item_text, items_text, is_letter, letters_before, expected_items, expected_text};
+ghost use Rattle.report.specs.Compiled.{may_stand, candidates, is_begun, candidate_of, all_short, each_text, items_text, is_letter, letters_before, expected_items, expected_text};
 
-use crate::least;
 use print::add_bytes;
-use rule::answer::Answer;
 use text::scan::ask_grammar;
-use text::token::{is_between, matching};
+use text::token::matching;
+
+// What is tried, and the word for it.
+const CANDIDATES: [(&[u8], &[u8]); 18] = [
+    (b"true", b"true"),
+    (b"false", b"false"),
+    (b"r", b"register"),
+    (b"not", b"not"),
+    (b"wprev", b"wprev"),
+    (b"prev", b"prev"),
+    (b"once", b"once"),
+    (b"sofar", b"sofar"),
+    (b"since", b"since"),
+    (b"and", b"and"),
+    (b"or", b"or"),
+    (b"implies", b"implies"),
+    (b"(", b"("),
+    (b")", b")"),
+    (b"=", b"="),
+    (b"<", b"<"),
+    (b"0", b"digit"),
+    (b" ", b"space"),
+];
 
 // The bytes before the place and then these, put into `tried` and asked about.
 fn stands(text: &[u8], place: usize, bytes: &[u8], tried: &mut [u8]) -> bool
     requires { (length text.now ≤ 65000) × (length bytes.now ≤ 8) × (length tried.old ≡ 65536) }
     ensures { result ≡ may_stand text.now place bytes.now }
 {
-    let n = least(place, text.len());
+    let n = place.min(text.len());
     let start = add_bytes(&text[..n], 0, tried);
     let end = add_bytes(bytes, start, tried);
-    let asked = ask_grammar(&tried[..end]);
-    match asked {
-        Answer::Passed => true,
-        Answer::Refused {
-            question: _,
-            place: stuck,
-        } => end <= stuck,
+    match ask_grammar(&tried[..end]) {
+        Ok(()) => true,
+        Err(stuck) => end <= stuck.place,
     }
 }
 
@@ -71,75 +87,53 @@ fn add_item(
     at
 }
 
-// Candidate number k.
-fn add_candidate(
+// The words for these, one after another.
+fn add_each(
     text: &[u8],
     start: usize,
     typed: usize,
-    k: usize,
+    tried: &[(&[u8], &[u8])],
     at: usize,
     out: &mut [u8],
 ) -> usize
-    requires { (length text.now ≤ 65000) × (k < length candidates) × (at + 9 ≤ length out.old) }
-    ensures { Filled 9 (item_text text.now start typed (get_or candidates k (itself []))) at result out.old out.new }
+    requires { (length text.now ≤ 65000) × (all_short (map candidate_of tried.now) ≡ true) × (at + 9 * length tried.now ≤ length out.old) }
+    ensures { Filled (9 * length tried.now) (each_text text.now start typed (map candidate_of tried.now) (length tried.now)) at result out.old out.new }
 {
-    match k {
-        0 => add_item(text, start, typed, b"true", b"true", at, out),
-        1 => add_item(text, start, typed, b"false", b"false", at, out),
-        2 => add_item(text, start, typed, b"r", b"register", at, out),
-        3 => add_item(text, start, typed, b"not", b"not", at, out),
-        4 => add_item(text, start, typed, b"wprev", b"wprev", at, out),
-        5 => add_item(text, start, typed, b"prev", b"prev", at, out),
-        6 => add_item(text, start, typed, b"once", b"once", at, out),
-        7 => add_item(text, start, typed, b"sofar", b"sofar", at, out),
-        8 => add_item(text, start, typed, b"since", b"since", at, out),
-        9 => add_item(text, start, typed, b"and", b"and", at, out),
-        10 => add_item(text, start, typed, b"or", b"or", at, out),
-        11 => add_item(text, start, typed, b"implies", b"implies", at, out),
-        12 => add_item(text, start, typed, b"(", b"(", at, out),
-        13 => add_item(text, start, typed, b")", b")", at, out),
-        14 => add_item(text, start, typed, b"=", b"=", at, out),
-        15 => add_item(text, start, typed, b"<", b"<", at, out),
-        16 => add_item(text, start, typed, b"0", b"digit", at, out),
-        _ => add_item(text, start, typed, b" ", b"space", at, out),
+    let mut end = at;
+    for (bytes, shown) in tried {
+        end = add_item(text, start, typed, bytes, shown, end, out);
     }
+    end
 }
 
 fn add_candidates(text: &[u8], start: usize, typed: usize, at: usize, out: &mut [u8]) -> usize
     requires { (length text.now ≤ 65000) × (at + 162 ≤ length out.old) }
     ensures { Filled 162 (items_text text.now start typed (length candidates)) at result out.old out.new }
 {
-    let mut end = at;
-    let mut k: usize = 0;
-    while k < 18 {
-        end = add_candidate(text, start, typed, k, end, out);
-        k += 1;
-    }
-    end
+    add_each(text, start, typed, &CANDIDATES, at, out)
 }
 
 fn is_letter(b: u8) -> bool
     ensures { result ≡ is_letter b }
 {
-    is_between(b'a', b, b'z')
+    b.is_ascii_lowercase()
+}
+
+// How many letters these bytes end with.
+fn last_letters(bytes: &[u8]) -> usize
+    ensures { result ≡ length (take_while is_letter (reverse bytes.now)) }
+{
+    bytes.iter().rev().take_while(|b| is_letter(**b)).count()
 }
 
 // How many letters stand just before the place.
 fn letters_before(text: &[u8], place: usize) -> usize
     ensures { (result ≤ place) × (result ≡ letters_before text.now place) }
 {
-    let mut n: usize = 0;
-    while n < place {
-        let i = place - n - 1;
-        if text.len() <= i {
-            return n;
-        }
-        if !is_letter(text[i]) {
-            return n;
-        }
-        n += 1;
+    if text.len() < place {
+        return 0;
     }
-    n
+    last_letters(&text[..place])
 }
 
 // Within a word the word that it is to be; else what may stand at the place.

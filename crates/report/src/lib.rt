@@ -5,41 +5,39 @@ ghost use Rattle.std.specs.Prelude.{◌≡◌, ◌++◌, ◌*◌, ◌+◌, ◌�
 ghost use Rattle.spec.specs.Rule.{form32};
 ghost use Rattle.grammar.specs.Texting.{texting};
 ghost use Rattle.print.specs.Written.{Added, Filled};
+ghost use Rattle.rule.specs.Answers.{number_of};
 ghost use Rattle.report.specs.Compiled.{without_last, text_in, hex_text, node_text, nodes_text, reason_text, answer_text, compiled_text};
 
 use crate::expected::add_expected;
 use crate::mark::add_mark;
 use print::{add_bytes, add_refused};
-use rule::answer::Counted;
+use rule::answer::{Question, Refusal};
 use text::read_text;
 
 mod expected;
 mod mark;
 
-// The lesser of the two.
-pub(crate) fn least(a: usize, b: usize) -> usize
-    ensures { (result ≤ a) × (result ≤ b) × (result < a → result ≡ b) }
+// The bytes without this byte at their end.
+fn without_last(bytes: &[u8], byte: u8) -> &[u8]
+    ensures { result.now ≡ without_last byte bytes.now }
 {
-    if a < b { a } else { b }
-}
-
-// How long the first n bytes are without this byte at their end.
-fn without_last(bytes: &[u8], n: usize, byte: u8) -> usize
-    requires { n ≤ length bytes.now }
-    ensures { (result ≤ n) × (take result bytes.now ≡ without_last byte (take n bytes.now)) }
-{
+    let n = bytes.len();
     if n == 0 {
-        return 0;
+        return bytes;
     }
-    if bytes[n - 1] == byte { n - 1 } else { n }
+    if bytes[n - 1] == byte {
+        &bytes[..n - 1]
+    } else {
+        bytes
+    }
 }
 
-// How long the text of an input is.
-fn text_length(bytes: &[u8]) -> usize
-    ensures { (result ≤ length bytes.now) × (take result bytes.now ≡ text_in bytes.now) }
+// The text of an input.
+fn text_in(bytes: &[u8]) -> &[u8]
+    ensures { result.now ≡ text_in bytes.now }
 {
-    let n = without_last(bytes, bytes.len(), b'\n');
-    without_last(bytes, n, b'\r')
+    let line = without_last(bytes, b'\n');
+    without_last(line, b'\r')
 }
 
 fn add_hex(word: u32, at: usize, out: &mut [u8]) -> usize
@@ -59,38 +57,37 @@ fn add_node(word: u32, at: usize, out: &mut [u8]) -> usize
     add_bytes(b"\n", end, out)
 }
 
-// The first n words.
-fn add_nodes(words: &[u32], n: usize, out: &mut [u8]) -> usize
-    requires { (n ≤ length words.now) × (9 * n ≤ length out.old) }
-    ensures { Added (nodes_text (take n words.now)) 0 result out.old out.new }
+fn add_nodes(words: &[u32], out: &mut [u8]) -> usize
+    requires { 9 * length words.now ≤ length out.old }
+    ensures { Added (nodes_text words.now) 0 result out.old out.new }
 {
     let mut end: usize = 0;
-    let mut i: usize = 0;
-    while i < n {
-        end = add_node(words[i], end, out);
-        i += 1;
+    for word in words {
+        end = add_node(*word, end, out);
     }
     end
 }
 
 // What is wrong.
-fn add_reason(text: &[u8], question: u32, place: usize, at: usize, out: &mut [u8]) -> usize
+fn add_reason(text: &[u8], refusal: Refusal, at: usize, out: &mut [u8]) -> usize
     requires { (length text.now ≤ 65000) × (at + 307 ≤ length out.old) }
-    ensures { Added (reason_text text.now question place) at result out.old out.new }
+    ensures { Added (reason_text text.now (number_of refusal.question) refusal.place) at result out.old out.new }
 {
-    if question == 16 {
-        let end = add_mark(text, place, at, out);
-        return add_expected(text, place, end, out);
+    match refusal.question {
+        Question::TextGrammar => {
+            let end = add_mark(text, refusal.place, at, out);
+            add_expected(text, refusal.place, end, out)
+        }
+        Question::TextRange => {
+            let end = add_mark(text, refusal.place, at, out);
+            add_bytes(b"registers go up to r15, numbers up to 16383\n", end, out)
+        }
+        _ => add_bytes(
+            b"a rule has at most 32 nodes, and this one needs more\n",
+            at,
+            out,
+        ),
     }
-    if question == 17 {
-        let end = add_mark(text, place, at, out);
-        return add_bytes(b"registers go up to r15, numbers up to 16383\n", end, out);
-    }
-    add_bytes(
-        b"a rule has at most 32 nodes, and this one needs more\n",
-        at,
-        out,
-    )
 }
 
 // The answer to a text, at the start of the output.
@@ -99,13 +96,12 @@ fn put_answer(text: &[u8], out: &mut [u8]) -> usize
     ensures { Added (answer_text text.now (texting form32 32 text.now)) 0 result out.old out.new }
 {
     let mut words = [0u32; 32];
-    let read = read_text(text, &mut words);
-    match read {
-        Counted::Refused { question, place } => {
-            let end = add_refused(question, place, 0, out);
-            add_reason(text, question, place, end, out)
+    match read_text(text, &mut words) {
+        Ok(n) => add_nodes(&words[..n], out),
+        Err(refusal) => {
+            let end = add_refused(u32::from(refusal.question), refusal.place, 0, out);
+            add_reason(text, refusal, end, out)
         }
-        Counted::Count(n) => add_nodes(&words, n, out),
     }
 }
 
@@ -114,9 +110,9 @@ pub fn compile(bytes: &[u8], out: &mut [u8; 512]) -> usize
     ensures { (result ≡ length (compiled_text bytes.now))
         × (out.new ≡ compiled_text bytes.now ++ drop result out.old) }
 {
-    let n = text_length(bytes);
-    if 65000 < n {
+    let text = text_in(bytes);
+    if 65000 < text.len() {
         return add_bytes(b"a text has at most 65000 bytes here\n", 0, out);
     }
-    put_answer(&bytes[..n], out)
+    put_answer(text, out)
 }

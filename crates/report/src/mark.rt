@@ -3,20 +3,21 @@ ghost use Rattle.std.specs.Prelude.{◌≡◌, map, ◌+◌, ◌-◌, ◌≤◌,
 ghost use Rattle.print.specs.Written.{Added, Filled};
 ghost use Rattle.report.specs.Compiled.{visible, shown_from, shown_text, pointer_text, mark_text};
 
-use crate::least;
 use print::add_bytes;
-use text::token::{is_between, minus};
 
 fn shown_from(place: usize) -> usize
     ensures { result ≡ shown_from place }
 {
-    minus(place, 60)
+    place.saturating_sub(60)
 }
 
 fn show(b: u8) -> u8
     ensures { result ≡ visible b }
 {
-    if is_between(b' ', b, b'~') { b } else { b'?' }
+    match b {
+        b' '..=b'~' => b,
+        _ => b'?',
+    }
 }
 
 // The n bytes from `from` on, as a terminal shows them.
@@ -24,12 +25,10 @@ fn add_shown(text: &[u8], from: usize, n: usize, at: usize, out: &mut [u8]) -> u
     requires { (n ≤ length text.now - from) × (at + n ≤ length out.old) }
     ensures { Added (map visible (take n (drop from text.now))) at result out.old out.new }
 {
-    let mut i: usize = 0;
-    while i < n {
+    for i in 0..n {
         out[at + i] = show(text[from + i]);
-        i += 1;
     }
-    at + i
+    at + n
 }
 
 // The text around the place.
@@ -38,7 +37,7 @@ fn add_text(text: &[u8], place: usize, at: usize, out: &mut [u8]) -> usize
     ensures { Filled 73 (shown_text text.now place) at result out.old out.new }
 {
     let from = shown_from(place);
-    let n = least(72, minus(text.len(), from));
+    let n = text.len().saturating_sub(from).min(72);
     let end = add_shown(text, from, n, at, out);
     add_bytes(b"\n", end, out)
 }

@@ -1,17 +1,21 @@
 // The words and numbers of a request, taken from its bytes.
-ghost use Rattle.std.specs.Prelude.{◌≡◌, ◌≤◌, ◌+◌, length};
+ghost use Rattle.std.specs.Prelude.{◌≡◌, ◌≤◌, ◌+◌, length, take};
 
+use rule::stored::Word;
 use words::word_at;
 
-// The `count` words from `at` on, as far as `out` goes.
-pub fn load_words(s: &[u8], at: usize, count: usize, out: &mut [u32])
+// The `count` words of a stored form from `at` on, as far as `out` goes: one of 64 bits is two of the request.
+pub fn load_words<W: Word>(s: &[u8], at: usize, count: usize, out: &mut [W])
     requires { (at ≤ 1000000) × (count ≤ 1000000) }
     ensures { length out.new ≡ length out.old }
 {
-    for i in 0..count {
-        if i < out.len() {
-            out[i] = word_at(s, at + i);
-        }
+    let n = count.min(out.len());
+    for (i, word) in out[..n].iter_mut().enumerate() {
+        *word = W::narrow(if W::IS_WIDE {
+            long_at(s, at + 2 * i)
+        } else {
+            long(word_at(s, at + i), 0)
+        });
     }
 }
 
@@ -20,46 +24,15 @@ pub fn load_numbers(s: &[u8], at: usize, count: usize, out: &mut [u16])
     requires { (at ≤ 1000000) × (count ≤ 1000000) }
     ensures { length out.new ≡ length out.old }
 {
-    for i in 0..count {
-        if i < out.len() {
-            out[i] = (word_at(s, at + i) % 65536) as u16;
-        }
+    let n = count.min(out.len());
+    for (i, number) in out[..n].iter_mut().enumerate() {
+        *number = (word_at(s, at + i) % 65536) as u16;
     }
 }
 
 // Two words, the high one first.
 pub fn long(high: u32, low: u32) -> u64 {
     high as u64 * 4294967296 + low as u64
-}
-
-// Words of 64 bits, each given as two.
-pub fn load_long(s: &[u8], at: usize, count: usize, out: &mut [u64])
-    requires { (at ≤ 1000000) × (count ≤ 1000000) }
-    ensures { length out.new ≡ length out.old }
-{
-    for i in 0..count {
-        if i < out.len() {
-            out[i] = long_at(s, at + 2 * i);
-        }
-    }
-}
-
-// The `count` words of either form, as far as the buffer of that form goes; the other one stays as it is.
-pub fn load_either(
-    s: &[u8],
-    at: usize,
-    count: usize,
-    is_wide: bool,
-    narrow: &mut [u32],
-    wide: &mut [u64],
-)
-    requires { (at ≤ 1000000) × (count ≤ 1000000) }
-{
-    if is_wide {
-        load_long(s, at, count, wide);
-    } else {
-        load_words(s, at, count, narrow);
-    }
 }
 
 // Two words, at `at`.
@@ -69,53 +42,35 @@ pub fn long_at(s: &[u8], at: usize) -> u64
     long(word_at(s, at), word_at(s, at + 1))
 }
 
-// And back: word i of the two that each is.
-fn half_at(words: &[u64], i: usize) -> u32 {
-    if words.len() <= i / 2 {
-        return 0;
-    }
-    let word = words[i / 2];
-    if i % 2 == 0 {
-        (word / 4294967296 % 4294967296) as u32
-    } else {
-        (word % 4294967296) as u32
+// And back: word i of a request that words of a stored form are.
+fn part_at<W: Word>(words: &[W], i: usize) -> u32 {
+    let parts = size_of(1, W::IS_WIDE);
+    match words.get(i / parts) {
+        None => 0,
+        Some(word) if i % parts == 0 => (word.widen() / 4294967296) as u32,
+        Some(word) => (word.widen() % 4294967296) as u32,
     }
 }
 
-pub fn split_words(words: &[u64], out: &mut [u32])
+pub fn split_words<W: Word>(words: &[W], out: &mut [u32])
     ensures { length out.new ≡ length out.old }
 {
-    for (i, half) in out.iter_mut().enumerate() {
-        *half = half_at(words, i);
+    for (i, part) in out.iter_mut().enumerate() {
+        *part = part_at(words, i);
     }
 }
 
-// How many words of a request so many words of its rule or script are.
-pub fn size_of(count: usize, long: bool) -> usize
+// How many words of a request so many words of a stored form are.
+pub fn size_of(count: usize, is_wide: bool) -> usize
     requires { count ≤ 16384 }
-    ensures { result ≤ count + count }
+    ensures { (count ≤ result) × (result ≤ count + count) }
 {
-    if long { count + count } else { count }
+    if is_wide { count + count } else { count }
 }
 
 // The first of a buffer, as many as there are of them.
-pub fn first_words(words: &[u32], count: usize) -> &[u32] {
-    if words.len() < count {
-        return words;
-    }
-    &words[..count]
-}
-
-pub fn first_longs(words: &[u64], count: usize) -> &[u64] {
-    if words.len() < count {
-        return words;
-    }
-    &words[..count]
-}
-
-pub fn first_numbers(numbers: &[u16], count: usize) -> &[u16] {
-    if numbers.len() < count {
-        return numbers;
-    }
-    &numbers[..count]
+pub fn first_of<T>(items: &[T], count: usize) -> &[T]
+    ensures { result.now ≡ take count items.now }
+{
+    &items[..count.min(items.len())]
 }

@@ -1,6 +1,7 @@
 // How answers are printed: a line each, words and numbers. No contract can say what is written, so these functions promise only that they
 // end, and they are the program's own. Each hands on the error of a write that fails.
-use rule::answer::{Answer, Counted};
+use rule::answer::Refusal;
+use std::fmt::Display;
 use std::io;
 
 pub fn say(rt: &impl Print, text: &[u8]) -> io::Result<()> {
@@ -17,47 +18,31 @@ pub fn print_named(rt: &impl Print, name: &[u8], n: u64) -> io::Result<()> {
     println!(rt; " {n}")
 }
 
-pub fn print_refused(rt: &impl Print, question: u32, place: usize) -> io::Result<()> {
+pub fn print_refused(rt: &impl Print, r: Refusal) -> io::Result<()> {
+    let question = u32::from(r.question);
+    let place = r.place;
     println!(rt; "refused {question} {place}")
 }
 
-pub fn print_answer(rt: &impl Print, a: Answer) -> io::Result<()> {
+pub fn print_answer(rt: &impl Print, a: Result<(), Refusal>) -> io::Result<()> {
     match a {
-        Answer::Passed => say(rt, b"passed\n"),
-        Answer::Refused { question, place } => print_refused(rt, question, place),
+        Ok(()) => say(rt, b"passed\n"),
+        Err(r) => print_refused(rt, r),
     }
 }
 
 // A refusal, or how many of them there are.
-pub fn print_counted(rt: &impl Print, name: &[u8], c: Counted) -> io::Result<()> {
+pub fn print_counted(rt: &impl Print, name: &[u8], c: Result<usize, Refusal>) -> io::Result<()> {
     match c {
-        Counted::Refused { question, place } => print_refused(rt, question, place),
-        Counted::Count(n) => print_named(rt, name, n as u64),
+        Ok(n) => print_named(rt, name, n as u64),
+        Err(r) => print_refused(rt, r),
     }
 }
 
-fn wide(x: u16) -> usize {
-    x as usize
-}
-
-// A name and numbers, on one line.
-pub fn print_numbers(rt: &impl Print, name: &[u8], numbers: &[u16]) -> io::Result<()> {
+// A name and numbers of any size, on one line.
+pub fn print_numbers<T: Display>(rt: &impl Print, name: &[u8], numbers: &[T]) -> io::Result<()> {
     say(rt, name)?;
     for n in numbers {
-        print_number(rt, wide(*n))?;
-    }
-    say(rt, b"\n")
-}
-
-fn long(x: u32) -> u64 {
-    x as u64
-}
-
-// The same of words.
-pub fn print_words(rt: &impl Print, name: &[u8], words: &[u32]) -> io::Result<()> {
-    say(rt, name)?;
-    for word in words {
-        let n = long(*word);
         print!(rt; " {n}")?;
     }
     say(rt, b"\n")

@@ -3,7 +3,7 @@
 --     past_by                      whether it is a past node is told by the kind
 --     upper_fields                 kind, register and constant are the upper bits
 --     small_by                     fields have space at their places
---     size_most, size_same         bounds of both lengths bound the number of words
+--     word_by_lem                  word k, as 64 bits
 --     fields_by_lem, length_by         the fields of a rule's word, and how many words there are
 --     node_by_lem, past_end            node k of the table is read from word k; past the last node the table has a false
 --     lower_by                     question 3 at node k, by the word
@@ -24,7 +24,7 @@ use Rattle.spec.proofs.RuleLaws.{node_read_lem, length_table}
 use Rattle.spec.proofs.StoredLaws.{good32, good64}
 use Rattle.moves.specs.Moves.{widen_word, narrow_word}
 use Rattle.rule.proofs.NodeLaws.{since_kind, weak_kind, past_either}
-use Rattle.rule.specs.Nodes.{fields_in, node_in, form_by, stored_in, words_in, fields_by, node_by, table_by}
+use Rattle.rule.specs.Nodes.{fields_in, node_in, form_by, wide_word, words_in, fields_by, node_by, table_by}
 
 past_kind : (f : NodeFields) → is_past (node_of f) ≡ (eqb f.kind 4 || eqb f.kind 5)
 past_kind f = past_either (node_of f) ∙ ap₂ ◌||◌ (since_kind f) (weak_kind f)
@@ -88,42 +88,36 @@ small_by w false = record { register_small = omega arith; constant_small = omega
 
 -- ---- a rule
 
-pub length_by : (b : Bool) (narrow wide : List ℕ) → length (words_in b narrow wide) ≡ length (stored_in b narrow wide)
-length_by true narrow wide = refl
-length_by false narrow wide = length-map narrow widen_word
+pub length_by : (b : Bool) (rule : List ℕ) → length (words_in b rule) ≡ length rule
+length_by true rule = refl
+length_by false rule = length-map rule widen_word
 
--- a bound of both lengths
-pub size_most : (b : Bool) (narrow wide : List ℕ) (k : ℕ) → length narrow ≤ k → length wide ≤ k → length (stored_in b narrow wide) ≤ k
-size_most true narrow wide k g h = h
-size_most false narrow wide k g h = g
+pub word_by_lem : (b : Bool) (rule : List ℕ) (k : ℕ) → get_or (words_in b rule) k 0 ≡ wide_word b (get_or rule k 0)
+word_by_lem true rule k = refl
+word_by_lem false rule k = get_or-map widen_word rule k 0
 
-pub size_same : (b : Bool) (narrow wide narrow' wide' : List ℕ) → length narrow' ≡ length narrow → length wide' ≡ length wide
-    → length (stored_in b narrow' wide') ≡ length (stored_in b narrow wide)
-size_same true narrow wide narrow' wide' g h = h
-size_same false narrow wide narrow' wide' g h = g
-
-pub fields_by_lem : (b : Bool) (narrow wide : List ℕ) (k : ℕ) → fields_by b (get_or (words_in b narrow wide) k 0) ≡ (form_by b).read_node (get_or (stored_in b narrow wide) k 0)
+pub fields_by_lem : (b : Bool) (rule : List ℕ) (k : ℕ) → fields_by b (get_or (words_in b rule) k 0) ≡ (form_by b).read_node (get_or rule k 0)
 unfolding form32 form64
-fields_by_lem true narrow wide k = refl
-fields_by_lem false narrow wide k = ap node_fields (ap narrow_word (get_or-map widen_word narrow k 0) ∙ shl-shr (get_or narrow k 0) 32)
+fields_by_lem true rule k = refl
+fields_by_lem false rule k = ap node_fields (ap narrow_word (get_or-map widen_word rule k 0) ∙ shl-shr (get_or rule k 0) 32)
 
 no_node : (b : Bool) → node_of ((form_by b).read_node 0) ≡ false_node
 no_node true = good64.no_node
 no_node false = good32.no_node
 
-module _ (b : Bool) (narrow wide : List ℕ) where
-  pub node_by_lem : (k : ℕ) → node_at (table_by b narrow wide) k ≡ node_by b (get_or (words_in b narrow wide) k 0)
-  node_by_lem k = node_read_lem (form_by b) (no_node b) (stored_in b narrow wide) k ∙ ap node_of (sym (fields_by_lem b narrow wide k))
+module _ (b : Bool) (rule : List ℕ) where
+  pub node_by_lem : (k : ℕ) → node_at (table_by b rule) k ≡ node_by b (get_or (words_in b rule) k 0)
+  node_by_lem k = node_read_lem (form_by b) (no_node b) rule k ∙ ap node_of (sym (fields_by_lem b rule k))
 
-  pub past_end : (k : ℕ) → length (stored_in b narrow wide) ≤ k → node_at (table_by b narrow wide) k ≡ false_node
-  past_end k h = get_or-eq_default (table_by b narrow wide) false_node {n = k} (rw (length_table (form_by b) (stored_in b narrow wide)) h)
+  pub past_end : (k : ℕ) → length rule ≤ k → node_at (table_by b rule) k ≡ false_node
+  past_end k h = get_or-eq_default (table_by b rule) false_node {n = k} (rw (length_table (form_by b) rule) h)
 
-  pub lower_by : (k : ℕ) → operands_lower (table_by b narrow wide) k ≡ all (λ j. ltb j k) (operands (node_by b (get_or (words_in b narrow wide) k 0)))
+  pub lower_by : (k : ℕ) → operands_lower (table_by b rule) k ≡ all (λ j. ltb j k) (operands (node_by b (get_or (words_in b rule) k 0)))
   unfolding operands_lower
   lower_by k = ap (λ x. all (λ j. ltb j k) (operands x)) (node_by_lem k)
 
-  pub rest_by : (k : ℕ) → k < length (stored_in b narrow wide)
-      → drop k (table_by b narrow wide) ≡ node_by b (get_or (words_in b narrow wide) k 0) ∷ drop (suc k) (table_by b narrow wide)
+  pub rest_by : (k : ℕ) → k < length rule
+      → drop k (table_by b rule) ≡ node_by b (get_or (words_in b rule) k 0) ∷ drop (suc k) (table_by b rule)
   rest_by k h =
-      drop-cons (table_by b narrow wide) k false_node (rw (length_table (form_by b) (stored_in b narrow wide)) h)
-      ∙ ap (λ x. x ∷ drop (suc k) (table_by b narrow wide)) (node_by_lem k)
+      drop-cons (table_by b rule) k false_node (rw (length_table (form_by b) rule) h)
+      ∙ ap (λ x. x ∷ drop (suc k) (table_by b rule)) (node_by_lem k)

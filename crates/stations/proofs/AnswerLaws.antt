@@ -1,5 +1,6 @@
 -- What a run of four stations answers and leaves (`specs/Views.antt`).
---     scripts_no, inputs_no, all_ran      the questions first, then the turns
+--     asked_no, asked_on                  the questions in turn
+--     all_refused, all_ran                a no of these, or the turns; scripts_no and inputs_no of each kind of question
 --     counted_refused, counted_ran        the same where so many states are counted
 --     list_refused, list_ran              and of a list of states
 -- Assumes nothing.
@@ -17,60 +18,63 @@ use Rattle.spec.specs.Judging.{question15}
 use Rattle.spec.specs.Check.{check_script}
 use Rattle.turns.specs.Stations as stationed
 use Rattle.turns.specs.Stations.{station_count, Four, four, Station, started, run_turns, ask_stations, question21, check_stations, running_stations, stations_report}
-use Rattle.spec.proofs.QuestionLaws.{then_passed, then_refused}
+use Rattle.spec.proofs.QuestionLaws.{then_passed, then_refused, first_no, go_on}
+use Rattle.std.specs.Prelude.{Result, Ok, Err}
+use Rattle.rule.specs.declared.answer.Question.TheVariants.{StationCount}
+use Rattle.rule.specs.declared.answer.Refusal.{Refusal}
+use Rattle.rule.specs.Answers.{number_of}
 use Rattle.machine.specs.declared.Machine.{Machine}
 use Rattle.stations.specs.declared.Progress.{Progress}
-use Rattle.stations.specs.declared.StationsAnswer.{StationsAnswer}
-use Rattle.stations.specs.declared.StationsAnswer.TheVariants.{Ran, Refused}
+use Rattle.stations.specs.declared.Ran.{Ran}
 use Rattle.stations.specs.Views.{progress_of, report_in, LeftAs, four_in, ListLeftAs, Answered, ListAnswered}
 
-module _ (form : Form) (s : Four Station) (budget allowance : ℕ) where
+module _ (form : Form) (s : Four Station) where
   abbrev scripts : Checked
   scripts = ask_stations (λ x. check_script form x.rule x.script) s
 
   abbrev numbers : Checked
   numbers = ask_stations (λ x. question15 x.inputs) s
 
-  abbrev end : stationed.Progress
-  end = run_turns budget form s (started form s allowance)
-
   -- four states: the stations are asked
   asked : check_stations form 4 s ≡ (scripts then numbers)
   unfolding check_stations question21 ask_once ◌then◌
   asked = refl
 
-  scripts_refused : (q i : ℕ) → scripts ≡ refused q i → running_stations form 4 s budget allowance ≡ refused q i
+  pub asked_no : (q i : ℕ) → refused q i ≡ scripts → refused q i ≡ check_stations form 4 s
+  asked_no q i e = first_no _ scripts numbers q i refl e ∙ sym asked
+
+  pub asked_on : passed tt ≡ scripts → (x : Checked) → x ≡ numbers → x ≡ check_stations form 4 s
+  asked_on e x is = go_on x scripts numbers (sym e) is ∙ sym asked
+
+module _ (form : Form) (s : Four Station) (budget allowance : ℕ) where
+  abbrev end : stationed.Progress
+  end = run_turns budget form s (started form s allowance)
+
+  refuses : (q i : ℕ) → refused q i ≡ check_stations form 4 s → running_stations form 4 s budget allowance ≡ refused q i
   unfolding running_stations
-  scripts_refused q i e = then_refused (check_stations form 4 s) (passed end) q i (asked ∙ then_refused scripts numbers q i e)
+  refuses q i e = then_refused (check_stations form 4 s) (passed end) q i (sym e)
 
-  module _ (yes : scripts ≡ passed tt) where
-    numbers_refused : (q i : ℕ) → numbers ≡ refused q i → running_stations form 4 s budget allowance ≡ refused q i
-    unfolding running_stations
-    numbers_refused q i e = then_refused (check_stations form 4 s) (passed end) q i (asked ∙ then_passed scripts numbers yes ∙ e)
-
-    runs : numbers ≡ passed tt → running_stations form 4 s budget allowance ≡ passed end
-    unfolding running_stations
-    runs e = then_passed (check_stations form 4 s) (passed end) (asked ∙ then_passed scripts numbers yes ∙ e)
+  runs : passed tt ≡ check_stations form 4 s → running_stations form 4 s budget allowance ≡ passed end
+  unfolding running_stations
+  runs e = then_passed (check_stations form 4 s) (passed end) (sym e)
 
   module _ (ms : Four Machine) (lent : Four (List ℕ)) where
-    stays : (q i : ℕ) → running_stations form 4 s budget allowance ≡ refused q i → (a : StationsAnswer) → a ≡ Refused q i
-        → Answered (running_stations form 4 s budget allowance) a ms ms lent lent
-    stays q i e a is = rw e (record { report = ap report_in is; kept = (refl, refl) })
+    pub all_refused : (r : Refusal) → refused (number_of r.question) r.place ≡ check_stations form 4 s
+        → Answered (running_stations form 4 s budget allowance) (Err r) ms ms lent lent
+    all_refused r e = rw (refuses _ _ e) (record { report = refl; kept = (refl, refl) })
 
-    pub scripts_no : (x : Checked) → x ≡ scripts → (q i : ℕ) → x ≡ refused q i → (a : StationsAnswer) → a ≡ Refused q i
-        → Answered (running_stations form 4 s budget allowance) a ms ms lent lent
-    scripts_no x told q i e = stays q i (scripts_refused q i (sym told ∙ e))
+    pub scripts_no : (r : Refusal) → refused (number_of r.question) r.place ≡ scripts form s
+        → Answered (running_stations form 4 s budget allowance) (Err r) ms ms lent lent
+    scripts_no r e = all_refused r (asked_no form s _ _ e)
 
-    module _ (x : Checked) (told : x ≡ scripts) (yes : x ≡ passed tt) where
-      pub inputs_no : (y : Checked) → y ≡ numbers → (q i : ℕ) → y ≡ refused q i → (a : StationsAnswer) → a ≡ Refused q i
-          → Answered (running_stations form 4 s budget allowance) a ms ms lent lent
-      inputs_no y told₂ q i e = stays q i (numbers_refused (sym told ∙ yes) q i (sym told₂ ∙ e))
+    pub inputs_no : passed tt ≡ scripts form s → (r : Refusal) → refused (number_of r.question) r.place ≡ numbers form s
+        → Answered (running_stations form 4 s budget allowance) (Err r) ms ms lent lent
+    inputs_no e₀ r e = all_refused r (asked_on form s e₀ _ e)
 
-      pub all_ran : (y : Checked) → y ≡ numbers → y ≡ passed tt → (p : Progress) (hs : Four (List ℕ)) → progress_of p hs ≡ end
-          → Answered (running_stations form 4 s budget allowance) (Ran p.counts.turns p.counts.left) ms (four p.first p.second p.third p.fourth) lent hs
-      all_ran y told₂ yes₂ p hs e =
-          let all = runs (sym told ∙ yes) (sym told₂ ∙ yes₂) ∙ ap passed (sym e) in
-          rw all (record { report = refl; kept = refl })
+    pub all_ran : passed tt ≡ check_stations form 4 s → (p : Progress) (hs : Four (List ℕ)) → progress_of p hs ≡ end
+        → Answered (running_stations form 4 s budget allowance) (Ok (record { turns = p.counts.turns; left = p.counts.left })) ms
+        (four p.first p.second p.third p.fourth) lent hs
+    all_ran e₀ p hs e = rw (runs e₀ ∙ ap passed (sym e)) (record { report = refl; kept = refl })
 
 -- ---- a list of states
 
@@ -96,18 +100,21 @@ module _ (form : Form) (s : Four Station) (budget allowance : ℕ) (lent : Four 
   unfolding running_stations check_stations question21 ask_once ◌then◌
   refused_is n e = rw e
 
+  abbrev no_four : Result Ran Refusal
+  no_four = Err (record { question = StationCount; place = 0 })
+
   -- a count of other than four
-  pub counted_refused : (n : ℕ) → (n ≡ 4 → ⊥) → (a : StationsAnswer) → a ≡ Refused 21 0 → (ms after : Four Machine) → after ≡ ms
+  pub counted_refused : (n : ℕ) → (n ≡ 4 → ⊥) → (a : Result Ran Refusal) → a ≡ no_four → (ms after : Four Machine) → after ≡ ms
       → Answered (answer n) a ms after lent lent
   counted_refused n ne a is ms after same = rw (refused_is n (ne_eqb n 4 ne)) (record { report = ap report_in is; kept = (same, refl) })
 
-  pub counted_ran : (n : ℕ) → n ≡ 4 → (a : StationsAnswer) (before ms after : Four Machine) (left : Four (List ℕ)) → before ≡ ms
+  pub counted_ran : (n : ℕ) → n ≡ 4 → (a : Result Ran Refusal) (before ms after : Four Machine) (left : Four (List ℕ)) → before ≡ ms
       → Answered (answer 4) a before after lent left → Answered (answer n) a ms after lent left
   counted_ran n e a before ms after left same h =
       subst (λ k. Answered (answer k) a ms after lent left) (sym e) (subst (λ m. Answered (answer 4) a m after lent left) same h)
 
   module _ (ys : List Machine) where
-    pub list_refused : eqb (length ys) 4 ≡ false → (a : StationsAnswer) → a ≡ Refused 21 0 → ListAnswered (answer (length ys)) a ys ys lent lent
+    pub list_refused : eqb (length ys) 4 ≡ false → (a : Result Ran Refusal) → a ≡ no_four → ListAnswered (answer (length ys)) a ys ys lent lent
     list_refused e a is = rw (refused_is (length ys) e) (record { report = ap report_in is; kept = (refl, refl) })
 
     left_as : (x : Answer stationed.Progress) (after : Four Machine) (left : Four (List ℕ)) → length ys ≡ 4
@@ -115,7 +122,7 @@ module _ (form : Form) (s : Four Station) (budget allowance : ℕ) (lent : Four 
     left_as (passed p) after left e h = (refl, h)
     left_as (refused q i) after left e h = (ap list_of h.0 ∙ list_is ys e, h.1)
 
-    pub list_ran : eqb (length ys) 4 ≡ true → (a : StationsAnswer) (after : Four Machine) (left : Four (List ℕ))
+    pub list_ran : eqb (length ys) 4 ≡ true → (a : Result Ran Refusal) (after : Four Machine) (left : Four (List ℕ))
         → Answered (answer 4) a (four_in ys) after lent left → ListAnswered (answer (length ys)) a ys (list_of after) lent left
     list_ran e a after left h =
         let four : length ys ≡ 4 = eqb-true (length ys) 4 e in

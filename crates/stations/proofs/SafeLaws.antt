@@ -13,15 +13,16 @@ use Rattle.spec.specs.Rule.{Form, table_of, rule_of}
 use Rattle.spec.specs.Machine.{trace}
 use Rattle.spec.specs.Ready.{MachineState}
 use Rattle.turns.specs.Stations as stationed
-use Rattle.turns.specs.Stations.{Four, pick, Station, question21, check_stations, running_stations, stations_report}
+use Rattle.turns.specs.Stations.{Four, each_of, pick, Station, question21, check_stations, running_stations, StationsReport, stations_report}
 use Rattle.turns.specs.StationsPromise.{after_turns, presented, StationsPromise}
 use Rattle.spec.proofs.QuestionLaws.{both_passed, once_out}
 use Rattle.turns.proofs.StationsDemand.{stations_kept}
+use Rattle.std.specs.Prelude.{Result, Ok, Err}
+use Rattle.rule.specs.declared.answer.Refusal.{Refusal}
 use Rattle.machine.specs.declared.Machine.{Machine}
 use Rattle.machine.specs.Machines.{machine_of, state_of}
-use Rattle.stations.specs.declared.StationsAnswer.{StationsAnswer}
-use Rattle.stations.specs.declared.StationsAnswer.TheVariants.{Ran, Refused}
-use Rattle.stations.specs.Views.{stations_of, machines_of, report_in, four_in, LeftAs, ListLeftAs, Answered, ListAnswered}
+use Rattle.stations.specs.declared.Ran.{Ran}
+use Rattle.stations.specs.Views.{machines_of, report_in, four_in, LeftAs, ListLeftAs, Answered, ListAnswered}
 use Rattle.stations.specs.Safe.{Kept, Safe}
 
 pick_state : (ms : Four Machine) (hs : Four (List ℕ)) (k : ℕ) → pick (machines_of ms hs) k ≡ state_of (pick ms k) (pick hs k)
@@ -30,9 +31,9 @@ pick_state ms hs (suc zero) = refl
 pick_state ms hs (suc (suc zero)) = refl
 pick_state ms hs (suc (suc (suc k))) = refl
 
-module _ (form : Form) (rules scripts inputs lent : Four (List ℕ)) (budget allowance : ℕ) where
-  abbrev s : Four Station
-  s = stations_of rules scripts inputs lent
+module _ (form : Form) (s : Four Station) (lent : Four (List ℕ)) (budget allowance : ℕ) where
+  abbrev rules : Four (List ℕ)
+  rules = each_of (λ x. x.rule) s
 
   pick_rule : (k : ℕ) → (pick s k).rule ≡ pick rules k
   pick_rule zero = refl
@@ -76,24 +77,24 @@ module _ (form : Form) (rules scripts inputs lent : Four (List ℕ)) (budget all
   EndsAs (refused q i) ms left = Unit {0}
 
   module _ (n : ℕ) (ms : Four Machine) (left : Four (List ℕ)) where
-    run_safe : (a : StationsAnswer) → report_in a ≡ stations_report (running_stations form n s budget allowance)
+    run_safe : (a : Result Ran Refusal) → report_in a ≡ stations_report (running_stations form n s budget allowance)
         → EndsAs (running_stations form n s budget allowance) ms left → Safe form rules allowance a ms left
-    run_safe (Ran turns rest) told ends = go (running_stations form n s budget allowance) refl told ends
+    run_safe (Ok r) told ends = go (running_stations form n s budget allowance) refl told ends
       where
-        go : (x : Answer stationed.Progress) → running_stations form n s budget allowance ≡ x → report_in (Ran turns rest) ≡ stations_report x
-            → EndsAs x ms left → Kept form rules allowance rest ms left
+        go : (x : Answer stationed.Progress) → running_stations form n s budget allowance ≡ x → report_in (Ok r) ≡ stations_report x
+            → EndsAs x ms left → Kept form rules allowance r.left ms left
         go (passed p) e told ends =
             let promise = stations_kept form s budget allowance p (subst (λ k. running_stations form k s budget allowance ≡ passed p) (four_states n p e) e) in
-            let same : p.left ≡ rest = sym (ap (λ r. r.left) told) in
+            let same : p.left ≡ r.left = sym (ap (λ (x : StationsReport). x.left) told) in
             subst (λ l. Kept form rules allowance l ms left) same (kept_end ms left p promise ends)
-        go (refused q i) e told ends = let v = ap (λ r. r.verdict) told in let z : ◌≡◌ {A = ℕ} 0 1 = cc in absurd (omega arith)
-    run_safe (Refused question place) told ends = tt
+        go (refused q i) e told ends = let v = ap (λ (x : StationsReport). x.verdict) told in let z : ◌≡◌ {A = ℕ} 0 1 = cc in absurd (omega arith)
+    run_safe (Err r) told ends = tt
 
     four_ends : (x : Answer stationed.Progress) (before : Four Machine) → LeftAs x before ms lent left → EndsAs x ms left
     four_ends (passed p) before kept = kept
     four_ends (refused q i) before kept = tt
 
-    pub four_safe : (a : StationsAnswer) (before : Four Machine) → Answered (running_stations form n s budget allowance) a before ms lent left
+    pub four_safe : (a : Result Ran Refusal) (before : Four Machine) → Answered (running_stations form n s budget allowance) a before ms lent left
         → Safe form rules allowance a ms left
     four_safe a before h = run_safe a h.report (four_ends (running_stations form n s budget allowance) before h.kept)
 
@@ -102,6 +103,6 @@ module _ (form : Form) (rules scripts inputs lent : Four (List ℕ)) (budget all
     list_ends (passed p) kept = kept.1
     list_ends (refused q i) kept = tt
 
-    pub list_safe : (n : ℕ) (a : StationsAnswer) → ListAnswered (running_stations form n s budget allowance) a before after lent left
+    pub list_safe : (n : ℕ) (a : Result Ran Refusal) → ListAnswered (running_stations form n s budget allowance) a before after lent left
         → Safe form rules allowance a (four_in after) left
     list_safe n a h = run_safe n (four_in after) left a h.report (list_ends (running_stations form n s budget allowance) h.kept)

@@ -16,7 +16,7 @@ use Rattle.spec.specs.Ready.{MachineState}
 use Rattle.turns.specs.Stations.{Station, instruction_for, passed_at, passed_over, left_at, station_step}
 use Rattle.spec.proofs.OpcodeLaws.{opcode_0}
 use Rattle.spec.proofs.StoredLaws.{length_read}
-use Rattle.rule.specs.Nodes.{form_by, stored_in}
+use Rattle.rule.specs.Nodes.{form_by}
 use Rattle.script.specs.Lines.{lines_in, word_at}
 use Rattle.script.proofs.LineLaws.{line_instruction}
 use Rattle.machine.specs.Machines.{state_of}
@@ -30,16 +30,16 @@ halt_word : instruction_of (fields_of 0) ≡ halt
 unfolding fields_of
 halt_word = opcode_0 (fields_of 0) refl
 
-module _ (b : Bool) (narrow wide : List ℕ) (l : ℕ) where
-  pub past_end : length (stored_in b narrow wide) / 8 ≤ l → (f : Fields) → f ≡ fields_of 0 → instruction_of f ≡ instruction_at (code_of (lines_in b narrow wide)) l
+module _ (b : Bool) (script : List ℕ) (l : ℕ) where
+  pub past_end : length script / 8 ≤ l → (f : Fields) → f ≡ fields_of 0 → instruction_of f ≡ instruction_at (code_of (lines_in b script)) l
   past_end h f e =
-      let lines = lines_in b narrow wide in
-      let n : length (code_of lines) ≤ l = omega (arith, length-map lines (λ (x : Line). x.instruction), length_read (form_by b) (stored_in b narrow wide)) in
+      let lines = lines_in b script in
+      let n : length (code_of lines) ≤ l = omega (arith, length-map lines (λ (x : Line). x.instruction), length_read (form_by b) script) in
       ap instruction_of e ∙ halt_word ∙ sym (get_or-eq_default (code_of lines) halt n)
 
-  pub at_line_lem : l < length (stored_in b narrow wide) / 8 → (w : ℕ) → w ≡ word_at b narrow wide l → (f : Fields) → f ≡ fields_of w
-      → instruction_of f ≡ instruction_at (code_of (lines_in b narrow wide)) l
-  at_line_lem h w e f g = line_instruction b narrow wide l h w e f g ∙ sym (instruction_at_lem b narrow wide l)
+  pub at_line_lem : l < length script / 8 → (w : ℕ) → w ≡ word_at b script l → (f : Fields) → f ≡ fields_of w
+      → instruction_of f ≡ instruction_at (code_of (lines_in b script)) l
+  at_line_lem h w e f g = line_instruction b script l h w e f g ∙ sym (instruction_at_lem b script l)
 
 -- ---- what is left
 

@@ -1,24 +1,32 @@
 -- This crate's machines, progress and answers as the specification's (crate turns, `specs/Stations.antt`).
-use Rattle.std.specs.Prelude.{◌≡◌, Bool, false, List, ℕ, length, get_or, replicate}
+use Rattle.std.specs.Prelude.{◌≡◌, false, List, ℕ, length, get_or, replicate, Result, Ok, Err}
 use Rattle.spec.specs.Questions.{Answer, passed, refused}
 use Rattle.spec.specs.Ready.{MachineState}
 use Rattle.turns.specs.Stations as stationed
-use Rattle.turns.specs.Stations.{station_count, Four, four, Station, station, StationsReport, stations_report}
-use Rattle.rule.specs.Nodes.{stored_in}
+use Rattle.turns.specs.Stations.{station_count, Four, four, each_of, Station, station, StationsReport, stations_report}
+use Rattle.rule.specs.declared.answer.Refusal.{Refusal}
+use Rattle.rule.specs.Answers.{number_of}
 use Rattle.machine.specs.declared.Machine.{Machine}
 use Rattle.machine.specs.Machines.{state_of}
 use Rattle.stations.specs.declared.FourStates.{FourStates}
 use Rattle.stations.specs.declared.Progress.{Progress}
-use Rattle.stations.specs.declared.StationsAnswer.{StationsAnswer}
-use Rattle.stations.specs.declared.StationsAnswer.TheVariants.{Ran, Refused}
+use Rattle.stations.specs.declared.Ran.{Ran}
+use Rattle.stations.specs.declared.Station as given
 
 -- ---- what the stations are given
 
--- of words in either stored form those that are meant
-abbrev pub either_of : (is_wide : Bool) → (narrow wide : Four (List ℕ)) → Four (List ℕ)
-either_of is_wide n w =
-    four (stored_in is_wide n.first w.first) (stored_in is_wide n.second w.second)
-    (stored_in is_wide n.third w.third) (stored_in is_wide n.fourth w.fourth)
+-- a station, from its words as numbers and its lent history
+abbrev pub station_of : {W : Type 0} → (numbers : List W → List ℕ) → given.Station W → (lent : List ℕ) → Station
+station_of numbers x lent = station (numbers x.rule.now) (numbers x.script.now) x.inputs.now lent
+
+-- four stations' rules, and the stations, each with its lent history
+abbrev pub rules_of : {W : Type 0} → (numbers : List W → List ℕ) → Four (given.Station W) → Four (List ℕ)
+rules_of numbers xs = each_of (λ x. numbers x.rule.now) xs
+
+abbrev pub given_of : {W : Type 0} → (numbers : List W → List ℕ) → Four (given.Station W) → (lent : Four (List ℕ)) → Four Station
+given_of numbers xs lent =
+    four (station_of numbers xs.first lent.first) (station_of numbers xs.second lent.second)
+    (station_of numbers xs.third lent.third) (station_of numbers xs.fourth lent.fourth)
 
 -- the four stations, from what each is given
 abbrev pub stations_of : (rules scripts inputs lent : Four (List ℕ)) → Four Station
@@ -65,9 +73,9 @@ four_in ms = four (get_or ms 0 no_state) (get_or ms 1 no_state) (get_or ms 2 no_
 -- ---- what a run answers and leaves
 
 -- this paper's number and values for each case: the turns and the allowance left; a refused answer has zeros
-abbrev pub report_in : StationsAnswer → StationsReport
-report_in (Ran turns left) = record { verdict = passed tt; turns = turns; left = left }
-report_in (Refused question place) = record { verdict = refused question place; turns = 0; left = 0 }
+abbrev pub report_in : Result Ran Refusal → StationsReport
+report_in (Ok r) = record { verdict = passed tt; turns = r.turns; left = r.left }
+report_in (Err r) = record { verdict = refused (number_of r.question) r.place; turns = 0; left = 0 }
 
 -- what a run leaves of four machines and their lent histories: those of its end; refused, states and histories stay
 abbrev pub LeftAs : Answer stationed.Progress → (before after : Four Machine) (lent left : Four (List ℕ)) → Type 0
@@ -79,10 +87,10 @@ abbrev pub ListLeftAs : Answer stationed.Progress → (before after : List Machi
 ListLeftAs (passed p) before after lent left = (length after ≡ station_count) × (machines_of (four_in after) left ≡ p.machines)
 ListLeftAs (refused q i) before after lent left = (after ≡ before) × (left ≡ lent)
 
-pub record Answered (ran : Answer stationed.Progress) (answer : StationsAnswer) (before after : Four Machine) (lent left : Four (List ℕ)) : Type 0 where
+pub record Answered (ran : Answer stationed.Progress) (answer : Result Ran Refusal) (before after : Four Machine) (lent left : Four (List ℕ)) : Type 0 where
   pub report : report_in answer ≡ stations_report ran
   pub kept : LeftAs ran before after lent left
 
-pub record ListAnswered (ran : Answer stationed.Progress) (answer : StationsAnswer) (before after : List Machine) (lent left : Four (List ℕ)) : Type 0 where
+pub record ListAnswered (ran : Answer stationed.Progress) (answer : Result Ran Refusal) (before after : List Machine) (lent left : Four (List ℕ)) : Type 0 where
   pub report : report_in answer ≡ stations_report ran
   pub kept : ListLeftAs ran before after lent left

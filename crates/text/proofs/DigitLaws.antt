@@ -1,5 +1,5 @@
 -- Digits read from a place of a text, with a value that fits (`specs/Tokens.antt`).
---     cap_low, cap_high, cap_small, cap_next      a number above 16,383 counts as 16,384, digit by digit too
+--     cap_low, cap_high, cap_min, cap_small, cap_next      a number above 16,383 counts as 16,384, digit by digit too
 --     Passed, passed_start, passed_next, passed_stop, passed_end      the loop over them
 --     digit_low, digit_high                       what a digit is
 -- Assumes nothing.
@@ -7,7 +7,7 @@ use mathlib.Core.Path.{◌≡◌, refl, sym, ap, ◌∙◌}
 use mathlib.Core.Logic.{inl, inr}
 use mathlib.Core.Bool.{true, false}
 use mathlib.Core.List.{List, ◌∷◌}
-use Prim.Native.Nat.{ℕ, ◌+◌, ◌-◌, ◌*◌, ◌≤◌, ◌<◌}
+use Prim.Native.Nat.{ℕ, min, ◌+◌, ◌-◌, ◌*◌, ◌≤◌, ◌<◌}
 use native.Mathlib.Numerals.{add-one}
 use native.Mathlib.Omega.{arith}
 use lib.ListN.{length, get_or, drop, drop_of_length-le}
@@ -35,6 +35,9 @@ cap_low n h = rw (le-leb n 16383 h)
 pub cap_high : (n : ℕ) → 16383 < n → capped n ≡ 16384
 unfolding capped
 cap_high n h = rw (lt-leb n 16383 h)
+
+pub cap_min : (n : ℕ) → min n 16384 ≡ capped n
+cap_min n = elim (le_or_lt n 16383) [ inl h ↦ let e = cap_low n h in (omega arith) | inr h ↦ let e = cap_high n h in (omega arith) ]
 
 pub cap_small : (n : ℕ) → capped n ≤ 16384
 cap_small n = elim (le_or_lt n 16383) [ inl h ↦ let e = cap_low n h in (omega arith) | inr h ↦ let e = cap_high n h in (omega arith) ]
@@ -84,7 +87,7 @@ module _ (text : List ℕ) (at value i : ℕ) (x : Passed text at value i) where
       next_is = let a = x.digits in let b = ap digits_in here in let c = digits_off (get_or text i 0) (drop (i + 1) text) e in omega arith;
     }
 
-  pub passed_end : length text ≤ i → Read text at value i
+  pub passed_end : length text ≤ i → Read text at value (length text)
   unfolding leading_from digits_in
   passed_end h =
       let e = drop_of_length-le text h in

@@ -25,12 +25,10 @@ use Rattle.grammar.specs.Scan.{kind_of, Scan, between, stuck_from, tokens_from, 
 use Rattle.grammar.proofs.JumpLaws.{Jump, space_jump, sign_jump, word_jump, first_of, letters_split, letter_kind, stuck_stop}
 use Rattle.grammar.proofs.NumeralLaws.{leads, leads_some, leads_none, digits_within, register_jump, number_jump}
 use Rattle.grammar.proofs.StopLaws.{NoToken, no_move, touching_none, word_stuck, register_stuck, agreeing_most, agreeing_all, agreeing_within}
-use Rattle.text.specs.Tokens.{tokens_in, capped, capped_token, spelled, word_at}
+use Rattle.text.specs.Tokens.{found, broken_at, Lexed, tokens_in, capped, capped_token, spelled, word_at}
 use Rattle.text.specs.Places.{want_of, scan_at, scan_after, Over, Reads, close_at}
 use Rattle.text.specs.declared.token.Token.{Token}
 use Rattle.text.specs.declared.token.Token.TheVariants as token
-use Rattle.text.specs.declared.token.Lexed.{Lexed}
-use Rattle.text.specs.declared.token.Lexed.TheVariants as lexed
 use Rattle.text.specs.declared.scan.Want.{Want}
 use Rattle.text.specs.declared.scan.Want.TheVariants as want
 
@@ -40,7 +38,7 @@ no_close close_sign = refl
 no_close equal_sign = refl
 no_close below_sign = refl
 
-pub close_some : (d i : ℕ) → d ≢ 0 → lexed.Found token.Close (i + 1) ≡ close_at d i
+pub close_some : (d i : ℕ) → d ≢ 0 → found token.Close (i + 1) ≡ close_at d i
 close_some zero i h = absurd (h refl)
 close_some (suc d) i h = refl
 
@@ -129,8 +127,8 @@ module _ (text : List ℕ) (i : ℕ) where
       spelled_reads : Reads text i want d false (spelled x i n (length (letters_of w)))
       spelled_reads =
           elim (decided (ltb n (length (letters_of w)))) [
-            | inl l ↦ subst (λ b. Reads text i want d false (cond b (lexed.Stuck (i + n)) (lexed.Found x (i + n)))) (sym l) (breaks (ltb-true n (length (letters_of w)) l))
-            | inr l ↦ subst (λ b. Reads text i want d false (cond b (lexed.Stuck (i + n)) (lexed.Found x (i + n)))) (sym l) (stands (ltb-false n (length (letters_of w)) l))
+            | inl l ↦ subst (λ b. Reads text i want d false (cond b (broken_at (i + n)) (found x (i + n)))) (sym l) (breaks (ltb-true n (length (letters_of w)) l))
+            | inr l ↦ subst (λ b. Reads text i want d false (cond b (broken_at (i + n)) (found x (i + n)))) (sym l) (stands (ltb-false n (length (letters_of w)) l))
           ]
 
       touches : stuck_from i (scan_at want d true) (drop i text) ≡ some i

@@ -25,6 +25,8 @@ use Rattle.text.specs.declared.token.Token as token
 use Rattle.text.specs.declared.token.Token.TheVariants as variant
 use Rattle.text.specs.declared.write.Progress.{Progress}
 use Rattle.rule.specs.Nodes.{form_in}
+use Rattle.text.specs.declared.token.WaitingWord.{WaitingWord}
+use Rattle.text.specs.declared.stack.Pending.{Pending}
 use Rattle.text.proofs.BuildLaws.{put_length, true_length}
 use Rattle.text.proofs.HoldLaws.{length_held}
 
@@ -35,17 +37,17 @@ strength_small typed.or_word = omega arith
 strength_small typed.implies_word = omega arith
 
 -- a token, and a progress, that is this one
-pub ready_as : {stack table : List ℕ} {p : Progress} {t x : token.Token} → t ≡ x → Ready stack table p t → Ready stack table p x
+pub ready_as : {stack : List Pending} {table : List ℕ} {p : Progress} {t x : token.Token} → t ≡ x → Ready stack table p t → Ready stack table p x
 ready_as {stack} {table} {p} e h = subst (Ready stack table p) e h
 
-module _ {stack table stack' table' : List ℕ} {p : Progress} {depth : ℕ} where
+module _ {stack : List Pending} {table : List ℕ} {stack' : List Pending} {table' : List ℕ} {p : Progress} {depth : ℕ} where
   pub took : {t x : token.Token} {r : Progress} → t ≡ x → Takes stack table p depth x stack' table' r → Takes stack table p depth t stack' table' r
   took {r = r} e h = subst (λ y. Takes stack table p depth y stack' table' r) (sym e) h
 
   pub with_progress : {t : token.Token} {r q : Progress} → r ≡ q → Takes stack table p depth t stack' table' q → Takes stack table p depth t stack' table' r
   with_progress {t = t} e h = subst (Takes stack table p depth t stack' table') (sym e) h
 
-module _ (stack table : List ℕ) (p : Progress) (depth : ℕ) where
+module _ (stack : List Pending) (table : List ℕ) (p : Progress) (depth : ℕ) where
   abbrev count : ℕ
   count = p.height.count
 
@@ -120,12 +122,12 @@ module _ (stack table : List ℕ) (p : Progress) (depth : ℕ) where
 
   -- ---- a word waits
 
-  module _ (w : Prefix) (m : ℕ) (e : waiting_of m ≡ awaiting (prefix_of w)) (r : Ready stack table p (variant.Prefix w)) where
+  module _ (w : Prefix) (m : WaitingWord) (e : waiting_of m ≡ awaiting (prefix_of w)) (r : Ready stack table p (variant.Prefix w)) where
     pub prefix_room : Fitting stack top table count × (count + owed (stack_of stack top) + (begin_cost (waiting_of m) + finish_cost (waiting_of m)) ≤ table_length)
     unfolding cost
     prefix_room = (r.fits, (let k = r.room in let a = ap begin_cost e in let b = ap finish_cost e in omega arith))
 
-    pub taken_prefix : (stack' : List ℕ) (top' : ℕ) (table' : List ℕ) (n : ℕ)
+    pub taken_prefix : (stack' : List Pending) (top' : ℕ) (table' : List ℕ) (n : ℕ)
         → Builds stack' top' table' n (waits (words form_in) depth (waiting_of m) (built_of stack top table count)) → Takes stack table p depth (variant.Prefix w) stack' table' (progress_at p top' n)
     unfolding read_all read
     taken_prefix stack' top' table' n b = record {
@@ -134,7 +136,7 @@ module _ (stack table : List ℕ) (p : Progress) (depth : ℕ) where
       fits = b.fits;
     }
 
-  module _ (w : Operator) (m level : ℕ) (e : waiting_of m ≡ with_left (operator_of w)) (l : level ≡ suc (strength (operator_of w))) (r : Ready stack table p (variant.Operator w)) where
+  module _ (w : Operator) (m : WaitingWord) (level : ℕ) (e : waiting_of m ≡ with_left (operator_of w)) (l : level ≡ suc (strength (operator_of w))) (r : Ready stack table p (variant.Operator w)) where
     pub operator_room : Fitting stack top table count × (count + owed (stack_of stack top) + (begin_cost (waiting_of m) + finish_cost (waiting_of m)) ≤ table_length) × (level ≤ 4)
     unfolding cost
     operator_room = (
@@ -143,7 +145,7 @@ module _ (stack table : List ℕ) (p : Progress) (depth : ℕ) where
       (let s = strength_small (operator_of w) in omega arith),
     )
 
-    pub taken_operator : (stack' : List ℕ) (top' : ℕ) (table' : List ℕ) (n : ℕ)
+    pub taken_operator : (stack' : List Pending) (top' : ℕ) (table' : List ℕ) (n : ℕ)
         → Builds stack' top' table' n (waits (words form_in) depth (waiting_of m) (unwound (words form_in) (rank depth level) (stack_of stack top) (take count table)))
         → Takes stack table p depth (variant.Operator w) stack' table' (progress_at p top' n)
     unfolding read_all read

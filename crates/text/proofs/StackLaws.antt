@@ -1,90 +1,58 @@
 -- The words that wait for an operand (`specs/Stacks.antt`).
---     stack_length_lem, stack_set, stack_pushed, pushed_length      as they lie in an array
---     ends_alike, begins_alike         words that put the same nodes
+--     stack_length_lem, stack_pushed      as they lie in an array
+--     begins_alike                     words that put no node where they are read
 --     weight, read_weight              nodes put and nodes owed: a token adds its cost
 --     entries_owed                     each owes one at least, so that the array is long enough
 --     read_small                       nodes to the left stay nodes of the table
 -- Assumes nothing.
-use mathlib.Core.Path.{◌≡◌, refl, ap, ap₂, ◌∙◌}
+use mathlib.Core.Path.{◌≡◌, refl, ap, ap₂}
 use mathlib.Core.Logic.{◌≢◌}
 use mathlib.Core.Bool.{Bool, true, false, cond}
 use mathlib.Core.List.{List, [], ◌∷◌}
-use Prim.Native.Nat.{ℕ, zero, suc, ◌+◌, ◌*◌, ◌≤◌}
+use Prim.Native.Nat.{ℕ, zero, suc, ◌+◌, ◌≤◌, ◌<◌}
 use native.Mathlib.Omega.{arith}
-use lib.ListN.{length, get_or, set, length-set}
+use lib.ListN.{length, set}
 use lib.Seq.{get_or-set_same, get_or-set_other}
 use lib.Dec.{leb}
 use Rattle.spec.specs.Rule.{Form, false_node, test_node}
 use Rattle.grammar.specs.Typed.{not, wprev, prev, once, sofar, since_word, and_word, or_word, implies_word, test_of}
 use Rattle.grammar.specs.Grammar.{constant_word, prefix_word, operator_word, Token, word, register, number, sign, strength}
 use Rattle.grammar.specs.Reading.{Waiting, awaiting, with_left, rank, Entry, Built, Reading, unwound, waits, read}
-use Rattle.text.specs.Building.{put_implies, begins, finishes, words, begin_cost, finish_cost, token_cost}
-use Rattle.text.specs.Stacks.{table_length, waiting_of, entry_of, entry_at, stack_of, owed, LeftSmall}
+use Rattle.text.specs.Building.{begins, finishes, words, begin_cost, finish_cost, token_cost}
+use Rattle.text.specs.Stacks.{table_length, waiting_of, entry_of, no_word, stack_of, owed, LeftSmall}
+use Rattle.text.specs.declared.token.WaitingWord.{WaitingWord}
+use Rattle.text.specs.declared.token.WaitingWord.TheVariants as variant
+use Rattle.text.specs.declared.stack.Pending.{Pending}
 use Rattle.text.proofs.BuildLaws.{put_length, true_length, begins_length, finishes_length}
 
 -- ---- in an array
 
-pub stack_length_lem : (st : List ℕ) (n : ℕ) → length (stack_of st n) ≡ n
+pub stack_length_lem : (st : List Pending) (n : ℕ) → length (stack_of st n) ≡ n
 unfolding stack_of
 stack_length_lem st zero = refl
 stack_length_lem st (suc n) = ap suc (stack_length_lem st n)
 
-entry_set : (st : List ℕ) (k i v : ℕ) → 3 * k + 3 ≤ i → entry_at (set st i v) k ≡ entry_at st k
-entry_set st k i v h =
-    let a = get_or-set_other st i (3 * k) v 0 (omega arith) in
-    let b = get_or-set_other st i (3 * k + 1) v 0 (omega arith) in
-    let c = get_or-set_other st i (3 * k + 2) v 0 (omega arith) in
-    ap₂ (λ x y. entry_of x y (get_or (set st i v) (3 * k + 2) 0)) a b ∙ ap (entry_of (get_or st (3 * k) 0) (get_or st (3 * k + 1) 0)) c
-
-pub stack_set : (st : List ℕ) (n i v : ℕ) → 3 * n ≤ i → stack_of (set st i v) n ≡ stack_of st n
+stack_set : (st : List Pending) (n i : ℕ) (x : Pending) → n ≤ i → stack_of (set st i x) n ≡ stack_of st n
 unfolding stack_of
-stack_set st zero i v h = refl
-stack_set st (suc n) i v h = ap₂ ◌∷◌ (entry_set st n i v (omega arith)) (stack_set st n i v (omega arith))
+stack_set st zero i x h = refl
+stack_set st (suc n) i x h = ap₂ ◌∷◌ (ap entry_of (get_or-set_other st i n x no_word (omega arith))) (stack_set st n i x (omega arith))
 
--- three numbers behind the first n entries
-pub stack_pushed : (st : List ℕ) (n w l d : ℕ) → 3 * n + 3 ≤ length st
-    → stack_of (set (set (set st (3 * n) w) (3 * n + 1) l) (3 * n + 2) d) (suc n) ≡ entry_of w l d ∷ stack_of st n
+-- one behind the first n entries
+pub stack_pushed : (st : List Pending) (n : ℕ) (x : Pending) → n < length st → stack_of (set st n x) (suc n) ≡ entry_of x ∷ stack_of st n
 unfolding stack_of
-stack_pushed st n w l d h =
-    let st₁ = set st (3 * n) w in
-    let st₂ = set st₁ (3 * n + 1) l in
-    let len₁ = length-set st (3 * n) w in
-    let len₂ = length-set st₁ (3 * n + 1) l in
-    let a : get_or (set st₂ (3 * n + 2) d) (3 * n) 0 ≡ w = get_or-set_other st₂ (3 * n + 2) (3 * n) d 0 (omega arith)
-    ∙ get_or-set_other st₁ (3 * n + 1) (3 * n) l 0 (omega arith) ∙ get_or-set_same st (3 * n) w 0 (omega arith) in
-    let b : get_or (set st₂ (3 * n + 2) d) (3 * n + 1) 0 ≡ l = get_or-set_other st₂ (3 * n + 2) (3 * n + 1) d 0 (omega arith) ∙ get_or-set_same st₁ (3 * n + 1) l 0 (omega arith) in
-    let c : get_or (set st₂ (3 * n + 2) d) (3 * n + 2) 0 ≡ d = get_or-set_same st₂ (3 * n + 2) d 0 (omega arith) in
-    let rest : stack_of (set st₂ (3 * n + 2) d) n ≡ stack_of st n = stack_set st₂ n (3 * n + 2) d (omega arith) ∙ stack_set st₁ n (3 * n + 1) l (omega arith)
-    ∙ stack_set st n (3 * n) w (omega arith) in
-    ap₂ ◌∷◌ (ap₂ (λ x y. entry_of x y (get_or (set st₂ (3 * n + 2) d) (3 * n + 2) 0)) a b ∙ ap (entry_of w l) c) rest
-
-pub pushed_length : (st : List ℕ) (n w l d : ℕ) → length (set (set (set st (3 * n) w) (3 * n + 1) l) (3 * n + 2) d) ≡ length st
-pushed_length st n w l d =
-    length-set (set (set st (3 * n) w) (3 * n + 1) l) (3 * n + 2) d ∙ length-set (set st (3 * n) w) (3 * n + 1) l ∙ length-set st (3 * n) w
-
--- or and implies end alike
-pub ends_alike : (form : Form) (w l : ℕ) (ws : List ℕ) → 7 ≤ w → (finish_cost (waiting_of w) ≡ 1) × (put_implies form l ws ≡ finishes form (waiting_of w) l ws)
-ends_alike form zero l ws h = absurd (omega arith)
-ends_alike form (suc zero) l ws h = absurd (omega arith)
-ends_alike form (suc (suc zero)) l ws h = absurd (omega arith)
-ends_alike form (suc (suc (suc zero))) l ws h = absurd (omega arith)
-ends_alike form (suc (suc (suc (suc zero)))) l ws h = absurd (omega arith)
-ends_alike form (suc (suc (suc (suc (suc zero))))) l ws h = absurd (omega arith)
-ends_alike form (suc (suc (suc (suc (suc (suc zero)))))) l ws h = absurd (omega arith)
-ends_alike form (suc (suc (suc (suc (suc (suc (suc zero))))))) l ws h = (refl, refl)
-ends_alike form (suc (suc (suc (suc (suc (suc (suc (suc w)))))))) l ws h = (refl, refl)
+stack_pushed st n x h = ap₂ ◌∷◌ (ap entry_of (get_or-set_same st n x no_word h)) (stack_set st n n x (omega arith))
 
 -- once, sofar and or alone put nodes where they are read
-pub begins_alike : (form : Form) (w : ℕ) (ws : List ℕ) → w ≢ 3 → w ≢ 4 → w ≢ 7 → ws ≡ begins form (waiting_of w) ws
-begins_alike form zero ws a b c = refl
-begins_alike form (suc zero) ws a b c = refl
-begins_alike form (suc (suc zero)) ws a b c = refl
-begins_alike form (suc (suc (suc zero))) ws a b c = absurd (a refl)
-begins_alike form (suc (suc (suc (suc zero)))) ws a b c = absurd (b refl)
-begins_alike form (suc (suc (suc (suc (suc zero))))) ws a b c = refl
-begins_alike form (suc (suc (suc (suc (suc (suc zero)))))) ws a b c = refl
-begins_alike form (suc (suc (suc (suc (suc (suc (suc zero))))))) ws a b c = absurd (c refl)
-begins_alike form (suc (suc (suc (suc (suc (suc (suc (suc w)))))))) ws a b c = refl
+pub begins_alike : (form : Form) (w : WaitingWord) (ws : List ℕ) → w ≢ variant.Once → w ≢ variant.Sofar → w ≢ variant.Or → ws ≡ begins form (waiting_of w) ws
+begins_alike form variant.Not ws a b c = refl
+begins_alike form variant.Wprev ws a b c = refl
+begins_alike form variant.Prev ws a b c = refl
+begins_alike form variant.Once ws a b c = absurd (a refl)
+begins_alike form variant.Sofar ws a b c = absurd (b refl)
+begins_alike form variant.Since ws a b c = refl
+begins_alike form variant.And ws a b c = refl
+begins_alike form variant.Or ws a b c = absurd (c refl)
+begins_alike form variant.Implies ws a b c = refl
 
 -- ---- nodes put and nodes owed
 

@@ -1,5 +1,5 @@
 -- Words that end (`specs/Stacks.antt`).
---     level_tight, level_loose, level_small      how tight a word binds, by its number
+--     level_tight, level_small      how tight a word binds
 --     stack_top, few_waiting           the last word that waits, and that there are no more than nodes in a table
 --     no_top, top_deeper, top_shallower, top_level      whether it ends
 --     Unwinding, unwinding_start, unwinding_room, unwinding_next, unwinding_stop      the loop that ends words
@@ -8,7 +8,7 @@ use mathlib.Core.Path.{◌≡◌, refl, sym, subst, ap, ◌∙◌}
 use mathlib.Core.Logic.{◌≢◌, inl, inr}
 use mathlib.Core.Bool.{true, false}
 use mathlib.Core.List.{List, [], ◌∷◌}
-use Prim.Native.Nat.{ℕ, zero, suc, ◌+◌, ◌-◌, ◌*◌, ◌≤◌, ◌<◌}
+use Prim.Native.Nat.{ℕ, zero, suc, ◌+◌, ◌-◌, ◌≤◌, ◌<◌}
 use native.Mathlib.Omega.{arith}
 use lib.ListN.{length, get_or, take}
 use lib.Dec.{leb}
@@ -18,33 +18,27 @@ use Rattle.grammar.specs.Reading.{Waiting, awaiting, with_left, level_of, rank, 
 use Rattle.grammar.proofs.SpellLaws.{right_small}
 use Rattle.grammar.proofs.ReadingLaws.{unwound_ends, unwound_stays, Under}
 use Rattle.text.specs.Building.{finishes, finish_cost, words}
-use Rattle.text.specs.Stacks.{table_length, waiting_of, entry_at, stack_of, owed, LeftSmall, Holds, Fitting, ends_top, Unwinds}
+use Rattle.text.specs.Stacks.{table_length, waiting_of, no_word, entry_at, stack_of, owed, LeftSmall, Holds, Fitting, ends_top, Unwinds}
 use Rattle.rule.specs.Nodes.{form_in}
+use Rattle.text.specs.declared.token.WaitingWord.{WaitingWord}
+use Rattle.text.specs.declared.token.WaitingWord.TheVariants as variant
+use Rattle.text.specs.declared.stack.Pending.{Pending}
 use Rattle.text.proofs.BuildLaws.{finishes_length}
 use Rattle.text.proofs.StackLaws.{stack_length_lem, entries_owed}
 use Rattle.text.proofs.HoldLaws.{length_held}
 
 -- ---- how tight a word binds
 
-pub level_tight : (w : ℕ) → w < 6 → 4 ≡ level_of (waiting_of w)
-level_tight zero h = refl
-level_tight (suc zero) h = refl
-level_tight (suc (suc zero)) h = refl
-level_tight (suc (suc (suc zero))) h = refl
-level_tight (suc (suc (suc (suc zero)))) h = refl
-level_tight (suc (suc (suc (suc (suc zero))))) h = refl
-level_tight (suc (suc (suc (suc (suc (suc w)))))) h = absurd (omega arith)
-
-pub level_loose : (w : ℕ) → 6 ≤ w → w ≢ 6 → w ≢ 7 → 0 ≡ level_of (waiting_of w)
-level_loose zero h a b = absurd (omega arith)
-level_loose (suc zero) h a b = absurd (omega arith)
-level_loose (suc (suc zero)) h a b = absurd (omega arith)
-level_loose (suc (suc (suc zero))) h a b = absurd (omega arith)
-level_loose (suc (suc (suc (suc zero)))) h a b = absurd (omega arith)
-level_loose (suc (suc (suc (suc (suc zero))))) h a b = absurd (omega arith)
-level_loose (suc (suc (suc (suc (suc (suc zero)))))) h a b = absurd (a refl)
-level_loose (suc (suc (suc (suc (suc (suc (suc zero))))))) h a b = absurd (b refl)
-level_loose (suc (suc (suc (suc (suc (suc (suc (suc w)))))))) h a b = refl
+pub level_tight : (w : WaitingWord) → w ≢ variant.And → w ≢ variant.Or → w ≢ variant.Implies → 4 ≡ level_of (waiting_of w)
+level_tight variant.Not a b c = refl
+level_tight variant.Wprev a b c = refl
+level_tight variant.Prev a b c = refl
+level_tight variant.Once a b c = refl
+level_tight variant.Sofar a b c = refl
+level_tight variant.Since a b c = refl
+level_tight variant.And a b c = absurd (a refl)
+level_tight variant.Or a b c = absurd (b refl)
+level_tight variant.Implies a b c = absurd (c refl)
 
 level_small : (w : Waiting) → level_of w ≤ 4
 level_small (awaiting p) = omega arith
@@ -52,25 +46,25 @@ level_small (with_left o) = right_small o
 
 -- ---- the last word that waits
 
-pub stack_top : (st : List ℕ) (n : ℕ) → n ≢ 0 → stack_of st n ≡ entry_at st (n - 1) ∷ stack_of st (n - 1)
+pub stack_top : (st : List Pending) (n : ℕ) → n ≢ 0 → stack_of st n ≡ entry_at st (n - 1) ∷ stack_of st (n - 1)
 unfolding stack_of
 stack_top st zero h = absurd (h refl)
 stack_top st (suc n) h = let z : n ≡ suc n - 1 = omega arith in ap (λ k. entry_at st k ∷ stack_of st k) z
 
-pub few_waiting : (st table : List ℕ) (top count : ℕ) → Fitting st top table count → top ≤ table_length
+pub few_waiting : (st : List Pending) (table : List ℕ) (top count : ℕ) → Fitting st top table count → top ≤ table_length
 few_waiting st table top count f =
     let a = entries_owed (stack_of st top) in let b = stack_length_lem st top in let c = f.room in omega arith
 
-pub no_top : (limit : ℕ) (st : List ℕ) (n : ℕ) → n ≡ 0 → false ≡ ends_top limit (stack_of st n)
+pub no_top : (limit : ℕ) (st : List Pending) (n : ℕ) → n ≡ 0 → false ≡ ends_top limit (stack_of st n)
 unfolding stack_of
 no_top limit st n e = sym (ap (λ k. ends_top limit (stack_of st k)) e)
 
-module _ (st : List ℕ) (n depth level : ℕ) (some : n ≢ 0) (small : level ≤ 4) where
+module _ (st : List Pending) (n depth level : ℕ) (some : n ≢ 0) (small : level ≤ 4) where
   abbrev deep : ℕ
-  deep = get_or st (3 * (n - 1) + 2) 0
+  deep = (get_or st (n - 1) no_word).depth
 
-  abbrev word : ℕ
-  word = get_or st (3 * (n - 1)) 0
+  abbrev word : WaitingWord
+  word = (get_or st (n - 1) no_word).word
 
   by_top : ends_top (rank depth level) (stack_of st n) ≡ leb (rank depth level) (rank deep (level_of (waiting_of word)))
   by_top = ap (ends_top (rank depth level)) (stack_top st n some)
@@ -90,14 +84,14 @@ module _ (st : List ℕ) (n depth level : ℕ) (some : n ≢ 0) (small : level �
 
 -- ---- the loop
 
-pub record Unwinding (stack : List ℕ) (top : ℕ) (table : List ℕ) (count limit t : ℕ) (now : List ℕ) (n : ℕ) : Type 0 where
+pub record Unwinding (stack : List Pending) (top : ℕ) (table : List ℕ) (count limit t : ℕ) (now : List ℕ) (n : ℕ) : Type 0 where
   pub same : unwound (words form_in) limit (stack_of stack t) (take n now) ≡ unwound (words form_in) limit (stack_of stack top) (take count table)
   pub fits : Fitting stack t now n
 
-pub unwinding_start : (stack : List ℕ) (top : ℕ) (table : List ℕ) (count limit : ℕ) → Fitting stack top table count → Unwinding stack top table count limit top table count
+pub unwinding_start : (stack : List Pending) (top : ℕ) (table : List ℕ) (count limit : ℕ) → Fitting stack top table count → Unwinding stack top table count limit top table count
 unwinding_start stack top table count limit f = record { same = refl; fits = f }
 
-module _ (stack : List ℕ) (top : ℕ) (table : List ℕ) (count limit t : ℕ) (now : List ℕ) (n : ℕ) (x : Unwinding stack top table count limit t now n) where
+module _ (stack : List Pending) (top : ℕ) (table : List ℕ) (count limit t : ℕ) (now : List ℕ) (n : ℕ) (x : Unwinding stack top table count limit t now n) where
   pub unwinding_stop : ends_top limit (stack_of stack t) ≡ false → Unwinds stack top table count limit t now n
   unwinding_stop e = record { built = sym (unwound_stays (words form_in) limit (stack_of stack t) (take n now) (under (stack_of stack t) e)) ∙ x.same; fits = x.fits }
     where

@@ -24,7 +24,9 @@ use Rattle.grammar.proofs.RangeLaws.{fit_append, range_tokens}
 use Rattle.text.specs.Tokens.{tokens_in, capped_token}
 use Rattle.text.specs.Places.{scan_of, scan_after, Over}
 use Rattle.text.specs.Building.{words, cost}
-use Rattle.text.specs.Stacks.{table_length, stack_length, stack_of, owed, LeftSmall, Fitting, Unwinds}
+use Rattle.std.specs.Prelude.{Some, None}
+use Rattle.text.specs.declared.stack.Pending.{Pending}
+use Rattle.text.specs.Stacks.{table_length, stack_length, no_word, stack_of, owed, LeftSmall, Fitting, Unwinds}
 use Rattle.text.specs.Progress.{reading_of, depth_in, Ready, Takes, TableOf}
 use Rattle.text.specs.declared.token.Prefix.TheVariants as prefix
 use Rattle.text.specs.declared.token.Operator.TheVariants as operator
@@ -115,7 +117,7 @@ depth_same w d variant.Below = refl
 
 -- ---- the loop
 
-pub record Writing (text : List ℕ) (allowed : ℕ) (stack table : List ℕ) (p : Progress) (s : Between) (total at : ℕ) : Type 0 where
+pub record Writing (text : List ℕ) (allowed : ℕ) (stack : List Pending) (table : List ℕ) (p : Progress) (s : Between) (total at : ℕ) : Type 0 where
   pub turning : Turning text s at
   pub through : stuck_from 0 start text ≡ none
   pub reading : whole (words form_in) (read_all (words form_in) (reading_of stack table p s.depth) (tokens_from (scan_of s) (drop at text))) ≡ rule_words form_in (opened (formula_of text))
@@ -131,14 +133,14 @@ abbrev first_pen : Progress
 first_pen = record { height = record { top = 0; count = 0 }; register = 0; below = false }
 
 pub writing_start : (text : List ℕ) (allowed : ℕ) (table : List ℕ) (s : Between) → question16 text ≡ passed tt → question17 text ≡ passed tt → allowed ≤ table_length → length table ≡ table_length → scan_of s ≡ start
-    → Writing text allowed (replicate stack_length 0) table first_pen s 0 0
+    → Writing text allowed (replicate stack_length no_word) table first_pen s 0 0
 unfolding tokens_of stack_of owed LeftSmall
 writing_start text allowed table s q₁₆ q₁₇ within l e =
     let d : s.depth ≡ 0 = ap depth_of e in
     record {
       turning = turning_start text s e;
       through = passes_through text q₁₆;
-      reading = ap₂ (λ n x. whole (words form_in) (read_all (words form_in) (reading_of (replicate stack_length 0) table first_pen n) (tokens_from x text))) d e ∙ whole_table text q₁₆ q₁₇;
+      reading = ap₂ (λ n x. whole (words form_in) (read_all (words form_in) (reading_of (replicate stack_length no_word) table first_pen n) (tokens_from x text))) d e ∙ whole_table text q₁₆ q₁₇;
       spent = let a = whole_cost text q₁₆ q₁₇ in let b = ap (λ x. cost (tokens_from x text)) e in omega arith;
       weighed = refl;
       within = within;
@@ -148,7 +150,7 @@ writing_start text allowed table s q₁₆ q₁₇ within l e =
       register = omega arith;
     }
 
-module _ (text : List ℕ) (allowed : ℕ) (stack table : List ℕ) (p : Progress) (s : Between) (total at : ℕ) (x : Writing text allowed stack table p s total at) where
+module _ (text : List ℕ) (allowed : ℕ) (stack : List Pending) (table : List ℕ) (p : Progress) (s : Between) (total at : ℕ) (x : Writing text allowed stack table p s total at) where
   abbrev rest : List Token
   rest = tokens_from (scan_of s) (drop at text)
 
@@ -174,8 +176,8 @@ module _ (text : List ℕ) (allowed : ℕ) (stack table : List ℕ) (p : Progres
     spent_is = let a = x.spent in let b = ap cost rest_is in let c = cost_append (tokens_in t) later in omega arith
 
     -- too many nodes
-    pub writing_many : (table' : List ℕ) → allowed < total + cost (tokens_in t) → TableOf text allowed table' (total + cost (tokens_in t))
-    writing_many table' h = record { few = λ k. absurd (let a = spent_is in omega arith); many = λ k. h }
+    pub writing_many : (table' : List ℕ) → allowed < total + cost (tokens_in t) → TableOf text allowed table' None
+    writing_many table' h = let a = spent_is in omega arith
 
     module _ (h : total + cost (tokens_in t) ≤ allowed) where
       pub writing_ready : Ready stack table p t
@@ -186,7 +188,7 @@ module _ (text : List ℕ) (allowed : ℕ) (stack table : List ℕ) (p : Progres
         register = x.register;
       }
 
-      pub writing_next : (stack' table' : List ℕ) (q : Progress) (s' : Between) → Takes stack table p s.depth t stack' table' q → scan_of s' ≡ scan_after s.want s.depth t
+      pub writing_next : (stack' : List Pending) (table' : List ℕ) (q : Progress) (s' : Between) → Takes stack table p s.depth t stack' table' q → scan_of s' ≡ scan_after s.want s.depth t
           → Writing text allowed stack' table' q s' (total + cost (tokens_in t)) next
       writing_next stack' table' q s' k e =
           let ready = writing_ready in
@@ -220,7 +222,7 @@ module _ (text : List ℕ) (allowed : ℕ) (stack table : List ℕ) (p : Progres
     none_left : rest ≡ []
     none_left = ap (tokens_from (scan_of s)) (drop_of_length-le text h) ∙ tokens_end (scan_of s)
 
-    pub writing_end : (t : ℕ) (after : List ℕ) (n : ℕ) → Unwinds stack p.height.top table p.height.count 0 t after n → TableOf text allowed after n
+    pub writing_end : (t : ℕ) (after : List ℕ) (n : ℕ) → Unwinds stack p.height.top table p.height.count 0 t after n → TableOf text allowed after (Some n)
     unfolding cost read_all whole
     writing_end t after n u =
         let a = x.spent in
@@ -230,7 +232,4 @@ module _ (text : List ℕ) (allowed : ℕ) (stack table : List ℕ) (p : Progres
         ∙ sym (ap (λ l. whole (words form_in) (read_all (words form_in) (reading_of stack table p s.depth) l)) none_left) ∙ x.reading in
         let c = length_held n after (let z = u.fits.room in omega arith) u.fits.table_long in
         let d = ap length words_are in
-        record {
-          few = λ k. record { words = words_are; count = omega arith; long = u.fits.table_long };
-          many = λ k. absurd (omega arith);
-        }
+        (omega arith, record { words = words_are; count = omega arith; long = u.fits.table_long })

@@ -1,18 +1,16 @@
 -- Between two tokens, as the scan has it, and what reading a token finds.
-use Rattle.std.specs.Prelude.{◌≡◌, Bool, true, false, List, ◌++◌, map, ℕ, zero, suc, ◌+◌, ◌-◌, ◌≤◌, ◌<◌, length, drop}
+use Rattle.std.specs.Prelude.{◌≡◌, Bool, true, false, List, ◌++◌, map, ℕ, zero, suc, ◌+◌, ◌-◌, ◌≤◌, ◌<◌, length, drop, Ok, Err}
 use Rattle.std.proofs.Math.Option.{some}
 use Rattle.grammar.specs.Grammar as grammar
 use Rattle.grammar.specs.Place as spec
 use Rattle.grammar.specs.Place.{Place, at, operand, comparison, constant_number, operator}
 use Rattle.grammar.specs.Scan.{Scan, between, stuck_from, tokens_from}
-use Rattle.text.specs.Tokens.{tokens_in, capped_token}
+use Rattle.text.specs.Tokens.{tokens_in, capped_token, Lexed, found, broken_at}
 use Rattle.text.specs.declared.token.Token.{Token}
 use Rattle.text.specs.declared.token.Token.TheVariants as token
 use Rattle.text.specs.declared.scan.Want.{Want}
 use Rattle.text.specs.declared.scan.Want.TheVariants as want
 use Rattle.text.specs.declared.scan.Between.{Between}
-use Rattle.text.specs.declared.token.Lexed.{Lexed}
-use Rattle.text.specs.declared.token.Lexed.TheVariants as lexed
 
 abbrev pub want_of : Want → spec.Want
 want_of want.Operand = operand
@@ -49,10 +47,10 @@ pub record Over (text : List ℕ) (i : ℕ) (s : Scan) (t : Token) (j : ℕ) (q 
   pub inside : j ≤ length text
 
 abbrev pub Reads : List ℕ → ℕ → Want → (depth : ℕ) → (touching : Bool) → Lexed → Type 0
-Reads text i w d t (lexed.Found token next) = Over text i (scan_at w d t) token next (scan_after w d token)
-Reads text i w d t (lexed.Stuck place) = stuck_from i (scan_at w d t) (drop i text) ≡ some place
+Reads text i w d t (Ok l) = Over text i (scan_at w d t) l.token l.next (scan_after w d l.token)
+Reads text i w d t (Err place) = stuck_from i (scan_at w d t) (drop i text) ≡ some place
 
 -- a closing bracket
 abbrev pub close_at : (depth at : ℕ) → Lexed
-close_at zero i = lexed.Stuck i
-close_at (suc d) i = lexed.Found token.Close (i + 1)
+close_at zero i = broken_at i
+close_at (suc d) i = found token.Close (i + 1)

@@ -1,5 +1,5 @@
 -- This crate's tokens as the grammar's.
-use Rattle.std.specs.Prelude.{Bool, cond, List, [], ◌∷◌, ℕ, ◌+◌, length, drop, leb, ltb}
+use Rattle.std.specs.Prelude.{Bool, cond, List, [], ◌∷◌, ℕ, ◌+◌, length, drop, eqb, leb, ltb, Result, Ok, Err}
 use Rattle.grammar.specs.Typed as typed
 use Rattle.grammar.specs.Grammar as grammar
 use Rattle.grammar.specs.Grammar.{constant_word, prefix_word, operator_word, open_sign, close_sign, equal_sign, below_sign, word, register, number, sign}
@@ -10,8 +10,7 @@ use Rattle.text.specs.declared.token.Operator.{Operator}
 use Rattle.text.specs.declared.token.Operator.TheVariants as operator
 use Rattle.text.specs.declared.token.Token.{Token}
 use Rattle.text.specs.declared.token.Token.TheVariants as token
-use Rattle.text.specs.declared.token.Lexed.{Lexed}
-use Rattle.text.specs.declared.token.Lexed.TheVariants as lexed
+use Rattle.text.specs.declared.token.Lexeme.{Lexeme}
 
 abbrev pub prefix_of : Prefix → typed.Prefix
 prefix_of prefix.Not = typed.not
@@ -49,9 +48,23 @@ capped_token (register n) = register (capped n)
 capped_token (number n) = number (capped n)
 capped_token (sign s) = sign s
 
+-- a byte is this letter
+abbrev pub same : ℕ × ℕ → Bool
+same p = eqb p.0 p.1
+
+-- a token and the place behind it, or the place that no text goes on at
+abbrev pub Lexed : Type 0
+Lexed = Result Lexeme ℕ
+
+abbrev pub found : Token → (next : ℕ) → Lexed
+found t n = Ok (record { token = t; next = n })
+
+abbrev pub broken_at : (place : ℕ) → Lexed
+broken_at i = Err i
+
 -- a word with these letters at a place: this token, or where it breaks off; it may not touch a word
-abbrev pub spelled : Token → (at found letters : ℕ) → Lexed
-spelled t at n l = cond (ltb n l) (lexed.Stuck (at + n)) (lexed.Found t (at + n))
+abbrev pub spelled : Token → (at there letters : ℕ) → Lexed
+spelled t at n l = cond (ltb n l) (broken_at (at + n)) (found t (at + n))
 
 abbrev pub word_at : Token → (touching : Bool) → (letters : List ℕ) → (at : ℕ) → (text : List ℕ) → Lexed
-word_at t touching letters at text = cond touching (lexed.Stuck at) (spelled t at (agreeing letters (drop at text)) (length letters))
+word_at t touching letters at text = cond touching (broken_at at) (spelled t at (agreeing letters (drop at text)) (length letters))

@@ -4,7 +4,7 @@ ghost use Rattle.rule.specs.Answers.{answer_of};
 ghost use Rattle.grammar.specs.Texting.{byte_before, most_after, in_range_at, question17};
 
 use crate::token::{digits_at, is_digit};
-use rule::answer::Answer;
+use rule::answer::{Question, Refusal};
 
 // A register's number follows its r.
 fn most_after(before: u8) -> u32
@@ -29,20 +29,18 @@ fn in_range(text: &[u8], at: usize, before: u8) -> bool
 }
 
 // The first number out of range.
-pub(crate) fn ask_range(text: &[u8]) -> Answer
+pub(crate) fn ask_range(text: &[u8]) -> Result<(), Refusal>
     ensures { answer_of result ≡ question17 text.now }
 {
     let mut before: u8 = 0;
-    let mut i = 0;
-    while i < text.len() {
+    for (i, b) in text.iter().enumerate() {
         if !in_range(text, i, before) {
-            return Answer::Refused {
-                question: 17,
+            return Err(Refusal {
+                question: Question::TextRange,
                 place: i,
-            };
+            });
         }
-        before = text[i];
-        i += 1;
+        before = *b;
     }
-    Answer::Passed
+    Ok(())
 }

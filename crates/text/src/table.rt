@@ -8,27 +8,8 @@ ghost use Rattle.grammar.specs.Reading.{awaiting, with_left};
 ghost use Rattle.text.specs.Building.{put, put_implies, put_since, put_weak, put_not, put_true, put_constant, finishes, finish_cost, token_cost};
 ghost use Rattle.text.specs.Stacks.{table_length, waiting_of, comparison_of, Holds};
 
-use crate::token::minus;
+use crate::token::WaitingWord;
 use rule::node::{Node, node_word};
-
-// The numbers of the words that wait for an operand.
-pub(crate) const NOT: usize = 0;
-
-pub(crate) const WPREV: usize = 1;
-
-pub(crate) const PREV: usize = 2;
-
-pub(crate) const ONCE: usize = 3;
-
-pub(crate) const SOFAR: usize = 4;
-
-pub(crate) const SINCE: usize = 5;
-
-pub(crate) const AND: usize = 6;
-
-pub(crate) const OR: usize = 7;
-
-pub(crate) const IMPLIES: usize = 8;
 
 // One more node.
 fn put_node(table: &mut [u64; 64], n: usize, x: Node) -> usize
@@ -83,7 +64,7 @@ fn put_implies(table: &mut [u64; 64], n: usize, left: usize) -> usize
     requires { (n < table_length) × (length table.old ≡ table_length) × (left < table_length) }
     ensures { Holds table.new result (put_implies form_in left (take n table.old)) }
 {
-    let right = minus(n, 1);
+    let right = n.saturating_sub(1);
     put_node(table, n, Node::Implies { left, right })
 }
 
@@ -91,7 +72,7 @@ fn put_since(table: &mut [u64; 64], n: usize, left: usize) -> usize
     requires { (n < table_length) × (length table.old ≡ table_length) × (left < table_length) }
     ensures { Holds table.new result (put_since form_in left (take n table.old)) }
 {
-    let right = minus(n, 1);
+    let right = n.saturating_sub(1);
     put_node(table, n, Node::Since { left, right })
 }
 
@@ -99,7 +80,13 @@ fn put_weak(table: &mut [u64; 64], n: usize) -> usize
     requires { (n < table_length) × (length table.old ≡ table_length) }
     ensures { Holds table.new result (put_weak form_in (take n table.old)) }
 {
-    put_node(table, n, Node::WeakPrevious { left: minus(n, 1) })
+    put_node(
+        table,
+        n,
+        Node::WeakPrevious {
+            left: n.saturating_sub(1),
+        },
+    )
 }
 
 // Not of the last node.
@@ -108,7 +95,7 @@ pub(crate) fn put_not(table: &mut [u64; 64], n: usize) -> usize
     ensures { Holds table.new result (put_not form_in (take n table.old)) }
 {
     let a = put_false(table, n);
-    put_implies(table, a, minus(n, 1))
+    put_implies(table, a, n.saturating_sub(1))
 }
 
 pub(crate) fn put_true(table: &mut [u64; 64], n: usize) -> usize
@@ -158,18 +145,19 @@ fn put_and(table: &mut [u64; 64], n: usize, left: usize) -> usize
 }
 
 // What a word puts whose operand has ended; `left` is the node to its left.
-pub(crate) fn put_end(table: &mut [u64; 64], n: usize, word: usize, left: usize) -> usize
+pub(crate) fn put_end(table: &mut [u64; 64], n: usize, word: WaitingWord, left: usize) -> usize
     requires { (n + finish_cost (waiting_of word) ≤ table_length) × (length table.old ≡ table_length) × (left < table_length) }
     ensures { Holds table.new result (finishes form_in (waiting_of word) left (take n table.old)) }
 {
     match word {
-        NOT => put_not(table, n),
-        WPREV => put_weak(table, n),
-        PREV => put_prev(table, n),
-        ONCE => put_since(table, n, left),
-        SOFAR => put_sofar(table, n, left),
-        SINCE => put_since(table, n, left),
-        AND => put_and(table, n, left),
-        _ => put_implies(table, n, left),
+        WaitingWord::Not => put_not(table, n),
+        WaitingWord::Wprev => put_weak(table, n),
+        WaitingWord::Prev => put_prev(table, n),
+        WaitingWord::Once => put_since(table, n, left),
+        WaitingWord::Sofar => put_sofar(table, n, left),
+        WaitingWord::Since => put_since(table, n, left),
+        WaitingWord::And => put_and(table, n, left),
+        WaitingWord::Or => put_implies(table, n, left),
+        WaitingWord::Implies => put_implies(table, n, left),
     }
 }

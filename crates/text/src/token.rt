@@ -1,8 +1,9 @@
 // The tokens of a text, and what they are read from: digits and letters.
-ghost use Rattle.std.specs.Prelude.{◌≡◌, ◌&&◌, ◌+◌, ◌-◌, ◌≤◌, ◌<◌, leb, length, drop};
+ghost use Rattle.std.specs.Prelude.{◌≡◌, ◌&&◌, ◌+◌, ◌-◌, ◌≤◌, ◌<◌, leb, length, drop, take_while};
+ghost use Rattle.std.specs.List.{zip};
 ghost use Rattle.grammar.specs.Grammar.{is_digit};
 ghost use Rattle.grammar.specs.Bytes.{leading_from, digits_in, agreeing};
-ghost use Rattle.text.specs.Tokens.{capped, word_at};
+ghost use Rattle.text.specs.Tokens.{capped, same, found, word_at};
 
 #[derive(Clone, Copy)]
 pub enum Prefix {
@@ -15,6 +16,20 @@ pub enum Prefix {
 
 #[derive(Clone, Copy)]
 pub enum Operator {
+    Since,
+    And,
+    Or,
+    Implies,
+}
+
+// A word that waits for an operand.
+#[derive(Clone, Copy)]
+pub enum WaitingWord {
+    Not,
+    Wprev,
+    Prev,
+    Once,
+    Sofar,
     Since,
     And,
     Or,
@@ -36,11 +51,11 @@ pub enum Token {
     Below,
 }
 
-// A token and the place behind it, or the place that no text goes on at.
+// A token and the place behind it.
 #[derive(Clone, Copy)]
-pub enum Lexed {
-    Found { token: Token, next: usize },
-    Stuck { place: usize },
+pub struct Lexeme {
+    pub token: Token,
+    pub next: usize,
 }
 
 #[derive(Clone, Copy)]
@@ -49,30 +64,17 @@ pub struct Digits {
     pub next: usize,
 }
 
-// The difference, or 0 where there is none.
-pub fn minus(a: usize, b: usize) -> usize
-    ensures { result ≡ a - b }
-{
-    if a < b { 0 } else { a - b }
-}
-
-pub fn is_between(low: u8, b: u8, high: u8) -> bool
-    ensures { result ≡ leb low b && leb b high }
-{
-    low <= b && b <= high
-}
-
 pub(crate) fn is_digit(b: u8) -> bool
     ensures { result ≡ is_digit b }
 {
-    is_between(b'0', b, b'9')
+    b.is_ascii_digit()
 }
 
 // Any number of digits has a value that fits: above 16,383 it counts as 16,384, which no node holds.
 fn cap(n: u32) -> u32
     ensures { result ≡ capped n }
 {
-    if n <= 16383 { n } else { 16384 }
+    n.min(16384)
 }
 
 // The digits that start at `at`.
@@ -82,70 +84,71 @@ pub(crate) fn digits_at(text: &[u8], at: usize) -> Digits
     ensures next { result.next ≡ at + digits_in (drop at text.now) }
 {
     let mut value: u32 = 0;
-    let mut i = at;
-    while i < text.len() {
+    for i in at..text.len() {
         let b = text[i];
         if !is_digit(b) {
             return Digits { value, next: i };
         }
         value = cap(10 * value + (b as u32 - 48));
-        i += 1;
     }
-    Digits { value, next: i }
+    Digits {
+        value,
+        next: text.len(),
+    }
+}
+
+fn same_first(bytes: &[u8], letters: &[u8]) -> usize
+    ensures { result ≡ length (take_while same (zip bytes.now letters.now)) }
+{
+    bytes
+        .iter()
+        .zip(letters)
+        .take_while(|(byte, letter)| byte == letter)
+        .count()
 }
 
 // How many of these letters stand at `at`.
 pub fn matching(text: &[u8], at: usize, letters: &[u8]) -> usize
     ensures { result ≡ agreeing letters.now (drop at text.now) }
 {
-    if text.len() < at {
+    let Some(rest) = text.get(at..) else {
         return 0;
-    }
-    let mut n: usize = 0;
-    while n < letters.len() {
-        if at + n == text.len() {
-            return n;
-        }
-        if text[at + n] != letters[n] {
-            return n;
-        }
-        n += 1;
-    }
-    n
+    };
+    same_first(rest, letters)
 }
 
-// A word with these letters: this token, or where it breaks off. It may not touch a word before it.
+// A word with these letters: this token, or as an error where it breaks off. It may not touch a word before it.
 pub(crate) fn read_word(
     text: &[u8],
     at: usize,
     touching: bool,
     letters: &[u8],
     token: Token,
-) -> Lexed
+) -> Result<Lexeme, usize>
     requires { at ≤ length text.now }
     ensures { result ≡ word_at token touching letters.now at text.now }
 {
     if touching {
-        return Lexed::Stuck { place: at };
+        return Err(at);
     }
     let n = matching(text, at, letters);
     if n < letters.len() {
-        Lexed::Stuck { place: at + n }
+        Err(at + n)
     } else {
-        Lexed::Found {
+        Ok(Lexeme {
             token,
             next: at + n,
-        }
+        })
     }
 }
 
 // A token of one byte.
-pub(crate) fn one_byte(token: Token, at: usize) -> Lexed
+pub(crate) fn one_byte(token: Token, at: usize) -> Result<Lexeme, usize>
     requires { at < 18446744073709551615 }
-    ensures { result ≡ Lexed.Found token (at + 1) }
+    ensures { result ≡ found token (at + 1) }
 {
-    Lexed::Found {
+    Ok(Lexeme {
         token,
         next: at + 1,
-    }
+    })
 }

@@ -13,12 +13,9 @@ ghost use Rattle.text.specs.Stacks.{table_length, waiting_of, stack_of, built_of
 ghost use Rattle.text.specs.Progress.{Builds, progress_at, progress_with, Ready, Takes, TableOf};
 
 use crate::scan::{Want, after_token, read_token, wanting};
-use crate::stack::{Height, push, unwind};
-use crate::table::{
-    AND, IMPLIES, NOT, ONCE, OR, PREV, SINCE, SOFAR, WPREV, put_constant, put_not, put_test,
-    put_true,
-};
-use crate::token::{Lexed, Operator, Prefix, Token, minus};
+use crate::stack::{Height, Pending, push, unwind};
+use crate::table::{put_constant, put_not, put_test, put_true};
+use crate::token::{Operator, Prefix, Token, WaitingWord};
 
 // How many words wait and nodes are there, and the register and the sign of the atom that is being read.
 #[derive(Clone, Copy)]
@@ -28,26 +25,26 @@ pub struct Progress {
     pub below: bool,
 }
 
-fn prefix_number(word: Prefix) -> usize
+fn prefix_word(word: Prefix) -> WaitingWord
     ensures { waiting_of result ≡ awaiting (prefix_of word) }
 {
     match word {
-        Prefix::Not => NOT,
-        Prefix::Wprev => WPREV,
-        Prefix::Prev => PREV,
-        Prefix::Once => ONCE,
-        Prefix::Sofar => SOFAR,
+        Prefix::Not => WaitingWord::Not,
+        Prefix::Wprev => WaitingWord::Wprev,
+        Prefix::Prev => WaitingWord::Prev,
+        Prefix::Once => WaitingWord::Once,
+        Prefix::Sofar => WaitingWord::Sofar,
     }
 }
 
-fn operator_number(word: Operator) -> usize
+fn operator_word(word: Operator) -> WaitingWord
     ensures { waiting_of result ≡ with_left (operator_of word) }
 {
     match word {
-        Operator::Since => SINCE,
-        Operator::And => AND,
-        Operator::Or => OR,
-        Operator::Implies => IMPLIES,
+        Operator::Since => WaitingWord::Since,
+        Operator::And => WaitingWord::And,
+        Operator::Or => WaitingWord::Or,
+        Operator::Implies => WaitingWord::Implies,
     }
 }
 
@@ -64,42 +61,43 @@ fn operator_level(word: Operator) -> usize
 }
 
 // What a word puts where it is read: true comes before the operand of once and sofar, and or negates its left operand.
-fn put_begin(table: &mut [u64; 64], n: usize, word: usize) -> usize
+fn put_begin(table: &mut [u64; 64], n: usize, word: WaitingWord) -> usize
     requires { (n + begin_cost (waiting_of word) ≤ table_length) × (length table.old ≡ table_length) }
     ensures { Holds table.new result (begins form_in (waiting_of word) (take n table.old)) }
 {
     match word {
-        ONCE => put_true(table, n),
-        SOFAR => put_true(table, n),
-        OR => put_not(table, n),
+        WaitingWord::Once => put_true(table, n),
+        WaitingWord::Sofar => put_true(table, n),
+        WaitingWord::Or => put_not(table, n),
         _ => n,
     }
 }
 
 // A word waits, with the last node to its left.
 fn wait(
-    stack: &mut [usize; 192],
+    stack: &mut [Pending; 64],
     top: usize,
     table: &mut [u64; 64],
     count: usize,
-    word: usize,
+    word: WaitingWord,
     depth: usize,
 ) -> Height
     requires { Fitting stack.old top table.old count × (count + owed (stack_of stack.old top) + (begin_cost (waiting_of word) + finish_cost (waiting_of word)) ≤ table_length) }
     ensures { Builds stack.new result.top table.new result.count (waits (words form_in) depth (waiting_of word) (built_of stack.old top table.old count)) }
 {
     let n = put_begin(table, count, word);
-    let t = push(stack, top, word, minus(n, 1), depth);
+    let left = n.saturating_sub(1);
+    let t = push(stack, top, Pending { word, left, depth });
     Height { top: t, count: n }
 }
 
 // A word between two formulas: what binds its left operand tighter ends.
 fn join(
-    stack: &mut [usize; 192],
+    stack: &mut [Pending; 64],
     top: usize,
     table: &mut [u64; 64],
     count: usize,
-    word: usize,
+    word: WaitingWord,
     depth: usize,
     level: usize,
 ) -> Height
@@ -142,8 +140,8 @@ fn nodes_for(token: Token) -> usize
         Token::Constant { value } => if value { 3 } else { 1 },
         Token::Prefix { word } => prefix_nodes(word),
         Token::Operator { word } => operator_nodes(word),
-        Token::Register { number: _ } => 0,
-        Token::Number { number: _ } => 1,
+        Token::Register { .. } => 0,
+        Token::Number { .. } => 1,
         Token::Open => 0,
         Token::Close => 0,
         Token::Equal => 0,
@@ -156,19 +154,17 @@ fn at_height(progress: Progress, top: usize, count: usize) -> Progress
 {
     Progress {
         height: Height { top, count },
-        register: progress.register,
-        below: progress.below,
+        ..progress
     }
 }
 
 fn with_atom(progress: Progress, register: u32, below: bool) -> Progress
     ensures { result ≡ progress_with progress register below }
 {
-    let height = progress.height;
     Progress {
-        height,
         register,
         below,
+        ..progress
     }
 }
 
@@ -177,7 +173,7 @@ fn take_token(
     token: Token,
     progress: Progress,
     depth: usize,
-    stack: &mut [usize; 192],
+    stack: &mut [Pending; 64],
     table: &mut [u64; 64],
 ) -> Progress
     requires { Ready stack.old table.old progress token }
@@ -190,7 +186,7 @@ fn take_token(
         Token::Space => progress,
         Token::Constant { value } => at_height(progress, top, put_constant(table, count, value)),
         Token::Prefix { word } => {
-            let h = wait(stack, top, table, count, prefix_number(word), depth);
+            let h = wait(stack, top, table, count, prefix_word(word), depth);
             at_height(progress, h.top, h.count)
         }
         Token::Operator { word } => {
@@ -199,7 +195,7 @@ fn take_token(
                 top,
                 table,
                 count,
-                operator_number(word),
+                operator_word(word),
                 depth,
                 operator_level(word),
             );
@@ -219,12 +215,16 @@ fn take_token(
 }
 
 // The nodes of a text that questions 16 and 17 have let pass, at the start of the table. Hands back how many there are; where there are
-// more than allowed, some number above, and the table holds nothing of use.
-pub(crate) fn write_nodes(text: &[u8], allowed: usize, table: &mut [u64; 64]) -> usize
+// more than allowed, nothing, and the table holds nothing of use.
+pub(crate) fn write_nodes(text: &[u8], allowed: usize, table: &mut [u64; 64]) -> Option<usize>
     requires { (question16 text.now ≡ passed tt) × (question17 text.now ≡ passed tt) × (allowed ≤ table_length) × (length table.old ≡ table_length) }
     ensures { TableOf text.now allowed table.new result }
 {
-    let mut stack = [0usize; 192];
+    let mut stack = [Pending {
+        word: WaitingWord::Not,
+        left: 0,
+        depth: 0,
+    }; 64];
     let mut progress = Progress {
         height: Height { top: 0, count: 0 },
         register: 0,
@@ -233,21 +233,23 @@ pub(crate) fn write_nodes(text: &[u8], allowed: usize, table: &mut [u64; 64]) ->
     let mut s = wanting(Want::Operand, 0, false);
     let mut total: usize = 0;
     let mut at = 0;
+    // A step goes over a whole token, however long: no index is counted.
     while at < text.len() {
         let read = read_token(text, at, s);
         // Question 16 has been asked: there is a token.
-        let Lexed::Found { token, next } = read else {
-            return 65;
+        let Ok(lexeme) = read else {
+            return None;
         };
+        let token = lexeme.token;
         total += nodes_for(token);
         if allowed < total {
-            return total;
+            return None;
         }
         progress = take_token(token, progress, s.depth, &mut stack, table);
         s = after_token(s, token);
-        at = next;
+        at = lexeme.next;
     }
     let height = progress.height;
     let ended = unwind(&stack, height.top, table, height.count, 0, 0);
-    ended.count
+    Some(ended.count)
 }

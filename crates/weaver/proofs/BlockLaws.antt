@@ -1,6 +1,6 @@
 -- A block, part after part.
 --     updating_series, keeping_series     the code of the nodes with a work bit and the 12 lines, a node at a time
---     keep_length, all_keeps, keeping_room, keeping_few    how many lines the 12s have
+--     keep_length, all_keeps, keeping_room, keeping_few, keeping_node    how many lines the 12s have
 --     updatable_room, updating_few, updating_node, updating_size, updating_code    a node's code can be written where the loop has come to
 --     present_code                      the present and the 12 lines
 --     guard_few, guard_size, guard_last, guard_length, guard_code    deciding the last node, and the rest
@@ -22,9 +22,9 @@ use Rattle.spec.proofs.RuleLaws.{InOrder, length_table, rule_out}
 use Rattle.spec.proofs.WeaverLaws.{pasts_count, length_decide, length_updates, length_keeps, length_work}
 use Rattle.weaver.specs.Laid.{Deciding, Updatable, Guarding, Blocking, Working}
 use Rattle.weaver.specs.Parts.{present_lines, guard_lines}
-use Rattle.rule.specs.Nodes.{table_in, form_in, stored_in}
+use Rattle.rule.specs.Nodes.{table_in, form_in}
 use Rattle.facts.specs.Written.{Space}
-use Rattle.weaver.proofs.SeriesLaws.{Series, Filled, filled_part}
+use Rattle.weaver.proofs.SeriesLaws.{Series, Filled, filled_room, filled_part}
 
 -- ---- a node at a time
 
@@ -84,19 +84,32 @@ count_few (x ∷ t) = one_more (is_past x) (count is_past t) (length t) (count_f
 pub keeping_few : (rule : List ℕ) → length rule ≤ 64 → length (keeps (length rule) (table_in rule)) ≤ 64
 keeping_few rule h = omega (arith, all_keeps rule, count_few (table_in rule), length_table form_in rule)
 
+-- where the loop has come to, there is space for node k's 12, and the lines are few
+pub keeping_node : (b : Bool) (rule : List ℕ) (at : ℕ) (o₀ : List ℕ) {o : List ℕ} {c k : ℕ} → length rule ≤ 64 → Space at (count is_past (table_in rule)) o₀
+    → Filled (keeping_series (table_in rule)) b at o₀ o c k → k < length rule
+    → (8 * (at + c + cond (is_past (node_at (table_in rule) k)) 1 0) ≤ length o) × (c + cond (is_past (node_at (table_in rule) k)) 1 0 ≤ 64)
+keeping_node b rule at o₀ {o} {c} {k} few room i h =
+    let t = table_in rule in
+    let all = keeping_room rule at o₀ room in
+    let q = filled_part (keeping_series t) b at o₀ o c k (length rule) i (omega arith) all h in
+    let m = (filled_room (keeping_series t) b at o₀ o c k (length rule) i (omega arith) all).1 in
+    let z = keep_length (is_past (node_at t k)) k (keep_facts t k) in
+    let most = keeping_few rule few in
+    (omega (arith, all_keeps rule), omega arith)
+
 -- ---- the code of the nodes with a work bit
 
-module _ (rule sizes : List ℕ) (shared : ℕ) (b : Bool) (place : ℕ) (n₀ w₀ : List ℕ) (u : Updatable rule sizes shared place (stored_in b n₀ w₀)) where
+module _ {rule sizes : List ℕ} {shared place : ℕ} (b : Bool) (o₀ : List ℕ) (u : Updatable rule sizes shared place o₀) where
   order : InOrder (table_in rule)
   order = (rule_out form_in rule u.sized.0).ordered
 
   all_updates : length (updates (length rule) (table_in rule) place) ≡ updates_size (length rule) (table_in rule)
   all_updates = length_updates (table_in rule) order (length rule) place
 
-  pub updatable_room : 8 * (0 + length (updates (length rule) (table_in rule) place)) ≤ length (stored_in b n₀ w₀)
+  pub updatable_room : 8 * (0 + length (updates (length rule) (table_in rule) place)) ≤ length o₀
   updatable_room = let o = u.in_output in omega (arith, all_updates)
 
-  module _ (n w : List ℕ) (c k : ℕ) (i : Filled (updating_series (table_in rule) place) b 0 n₀ w₀ n w c k) (h : k < length rule) where
+  module _ {o : List ℕ} {c k : ℕ} (i : Filled (updating_series (table_in rule) place) b 0 o₀ o c k) (h : k < length rule) where
     abbrev code : ℕ → Facts → Lines
     code p F = work_code (table_in rule) k p F
 
@@ -109,18 +122,18 @@ module _ (rule sizes : List ℕ) (shared : ℕ) (b : Bool) (place : ℕ) (n₀ w
     -- the lines of the first k nodes and of node k
     part_within : c + work_size (table_in rule) k ≤ updates_size (length rule) (table_in rule)
     part_within =
-        let q = filled_part (updating_series (table_in rule) place) b 0 n₀ w₀ n w c k (length rule) i (omega arith) updatable_room h in
+        let q = filled_part (updating_series (table_in rule) place) b 0 o₀ o c k (length rule) i (omega arith) updatable_room h in
         omega (arith, all_updates, part_count)
 
     pub updating_few : (place + c < 1024) × (c + work_size (table_in rule) k < 1024)
     updating_few = let q = part_within in let s = u.in_script in (omega arith, omega arith)
 
-    pub updating_node : Working rule sizes shared k place (place + c) (stored_in b n w)
+    pub updating_node : Working rule sizes shared k place (place + c) o
     updating_node =
         let q = part_within in
         let s = u.in_script in
-        let o = u.in_output in
-        let m = i.1.same_length in
+        let room = u.in_output in
+        let m = (filled_room (updating_series (table_in rule) place) b 0 o₀ o c k (length rule) i (omega arith) updatable_room).1 in
         record {
           sized = u.sized;
           shared_is = u.shared_is;
@@ -146,7 +159,7 @@ present_code rule F =
 
 -- ---- deciding the last node
 
-module _ (rule sizes : List ℕ) (shared : ℕ) (base place end : ℕ) (out : List ℕ) (g : Guarding rule sizes shared base place end out) where
+module _ {rule sizes : List ℕ} {shared : ℕ} {base place end : ℕ} {out : List ℕ} (g : Guarding rule sizes shared base place end out) where
   abbrev last : ℕ
   last = length rule - 1
 
@@ -188,7 +201,7 @@ module _ (rule sizes : List ℕ) (shared : ℕ) (base place end : ℕ) (out : Li
 
 -- ---- the block
 
-module _ (rule sizes : List ℕ) (shared : ℕ) (place : ℕ) (out : List ℕ) (b : Blocking rule sizes shared place out) where
+module _ {rule sizes : List ℕ} {shared : ℕ} {place : ℕ} {out : List ℕ} (b : Blocking rule sizes shared place out) where
   abbrev t : Table
   t = table_in rule
 

@@ -1,4 +1,5 @@
 -- Deciding a node by recursion into its operands.
+--     kept_length                          words of an output that keeps its length
 --     falls_to                             the measure
 --     size_some                            deciding takes at least a line
 --     asked_as                             whether it is a mention of a shared node
@@ -28,11 +29,15 @@ use Rattle.spec.proofs.WeaverLaws.{size_shared, size_own, by_mention}
 use Rattle.sets.specs.Sets.{set_of}
 use Rattle.weaver.specs.Parts.{deciding, deciding_size}
 use Rattle.weaver.specs.Laid.{Deciding}
-use Rattle.rule.specs.Nodes.{table_in, is_implies, form_in, Put}
-use Rattle.rule.proofs.PutLaws.{put_as}
+use Rattle.rule.specs.Nodes.{table_in, is_implies, form_in, over_at, Each}
+use Rattle.rule.proofs.EachLaws.{length_each}
 use Rattle.facts.specs.Written.{stored_line, Space, Written}
 use Rattle.facts.proofs.OverLaws.{written_as}
 use Rattle.weaver.proofs.SimpleLaws.{leaf_words}
+
+pub kept_length : {A : Type 0} {number : A → ℕ} {numbers : List A → List ℕ} → Each number numbers → (before after : List A)
+    → length after ≡ length before → length (numbers after) ≡ length (numbers before)
+kept_length each before after e = length_each each after ∙ e ∙ sym (length_each each before)
 
 -- the measure falls
 pub falls_to : (j k t : ℕ) → k ≡ t → j < k → j < t
@@ -92,11 +97,11 @@ leaf_size size (since_node l r) k other = refl
 leaf_size size (weak_previous_node l) k other = refl
 
 -- node k is to be decided at `place`: what decides node j `here`, written now, completes its code
-abbrev pub Completes : (is_wide : Bool) → Table → (base on_true on_false : ℕ) → (own : Bool) → (k place : ℕ) → Facts → (narrow₀ wide₀ : List ℕ)
-    → (by_kind : Bool) → (j here : ℕ) → Facts → (narrow wide : List ℕ) → Type 0
-Completes is_wide t base on_true on_false own k place F narrow₀ wide₀ by_kind j here G narrow wide =
-    (n w : List ℕ) → Written is_wide (here - base) (deciding by_kind t j here on_true on_false G) narrow wide n w
-    → Written is_wide (place - base) (deciding own t k place on_true on_false F) narrow₀ wide₀ n w
+abbrev pub Completes : (is_wide : Bool) → Table → (base on_true on_false : ℕ) → (own : Bool) → (k place : ℕ) → Facts → (out₀ : List ℕ)
+    → (by_kind : Bool) → (j here : ℕ) → Facts → (out : List ℕ) → Type 0
+Completes is_wide t base on_true on_false own k place F out₀ by_kind j here G out =
+    (after : List ℕ) → Written is_wide (here - base) (deciding by_kind t j here on_true on_false G) out after
+    → Written is_wide (place - base) (deciding own t k place on_true on_false F) out₀ after
 
 -- what is known of an implies node with the operands l and r, where it can be decided by what it is
 pub record Implied (rule sizes : List ℕ) (shared : ℕ) (own : Bool) (k l r base place on_true on_false : ℕ) (out : List ℕ) : Type 0 where
@@ -138,13 +143,13 @@ module _ (rule sizes : List ℕ) (shared : ℕ) (own : Bool) (k base place on_tr
     pub work_room : Space (place - base) 2 out
     work_room = let o = d.in_output in omega (arith, by_work_size t order k own (asked true a))
 
-    pub work_code_lem : (b : Bool) (n w n' w' : List ℕ) (F : Facts) (v : ℕ) → v ≡ word_for (branch (if_work k) on_true)
-        → Put b (8 * (place - base)) (stored_line b v F ++ stored_line b (word_for (goto on_false)) (F ∪ one (value_is false) k)) n w n' w'
-        → Written b (place - base) (deciding own t k place on_true on_false F) n w n' w'
-    work_code_lem b n w n' w' F v ev h =
-        written_as b (place - base) (leaf (if_work k) k place on_true on_false F) (deciding own t k place on_true on_false F) n w n' w'
+    pub work_code_lem : (b : Bool) (o o' : List ℕ) (F : Facts) (v : ℕ) → v ≡ word_for (branch (if_work k) on_true)
+        → o' ≡ over_at (8 * (place - base)) (stored_line b v F ++ stored_line b (word_for (goto on_false)) (F ∪ one (value_is false) k)) o
+        → Written b (place - base) (deciding own t k place on_true on_false F) o o'
+    work_code_lem b o o' F v ev h =
+        written_as b (place - base) (leaf (if_work k) k place on_true on_false F) (deciding own t k place on_true on_false F) o o'
         (by_work_code t order k own place on_true on_false F (asked true a))
-        (put_as b (8 * (place - base)) _ _ n w n' w' (leaf_words b v k place on_true on_false (if_work k) F ev) h)
+        (h ∙ ap (λ ws. over_at (8 * (place - base)) ws o) (leaf_words b v k place on_true on_false (if_work k) F ev))
 
   module _ (a : (set_of shared k && not own) ≡ false) where
     module _ (l r : ℕ) (is-implies : node_at t k ≡ implies_node l r) where

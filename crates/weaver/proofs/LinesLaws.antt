@@ -1,4 +1,5 @@
 -- A bare script, line after line.
+--     part_each, part_size, back_each        the words of the output from one on
 --     weave_up_to, weaving_series            the woven lines of the first l bare lines
 --     up_to_length, up_to_all             how many there are; those of all bare lines are the woven script
 --     present_line_lem, other_line            what a line becomes
@@ -9,8 +10,9 @@ use mathlib.Core.Bool.{Bool, true, false, cond}
 use mathlib.Core.List.{List, [], ◌∷◌, ◌++◌, append_assoc, append-nil}
 use Prim.Native.Nat.{ℕ, zero, suc, ◌+◌, ◌-◌, ◌*◌, ◌≤◌, ◌<◌}
 use native.Mathlib.Omega.{arith}
-use lib.ListN.{length, get_or, drop, length-append, drop_of_length-le}
-use lib.Seq.{drop-cons}
+use lib.ListN.{length, get_or, take, drop, length-append, length-drop, drop_of_length-le}
+use lib.Seq.{drop-cons, length-take-le}
+use Rattle.std.proofs.lemmas.List.{map-append}
 use Rattle.spec.specs.Rule.{Table}
 use Rattle.spec.specs.Script.{Instruction, halt, Code, instruction_at, instruction_read, is_present, bare_code}
 use Rattle.spec.specs.Check.{Lines}
@@ -19,9 +21,35 @@ use Rattle.spec.proofs.RuleLaws.{InOrder, rule_out}
 use Rattle.spec.proofs.WeaverLaws.{start_zero, start_next, length_weave_line}
 use Rattle.layout.proofs.StartLaws.{code_at, length_bare, present_inside, woven_few as few}
 use Rattle.weaver.specs.Laid.{Blocking, Weaving}
-use Rattle.rule.specs.Nodes.{table_in, form_in, stored_in}
+use Rattle.rule.specs.Nodes.{table_in, form_in, Each}
+use Rattle.rule.proofs.EachLaws.{length_each, take_each, drop_each}
+use Rattle.rule.proofs.PutLaws.{part_from, back_from}
 use Rattle.facts.specs.Written.{Space}
 use Rattle.weaver.proofs.SeriesLaws.{Series, Filled, filled_room, filled_part}
+
+-- ---- a part of the output
+
+module _ {A : Type 0} {number : A → ℕ} {numbers : List A → List ℕ} (each : Each number numbers) where
+  append_each : (xs ys : List A) → numbers (xs ++ ys) ≡ numbers xs ++ numbers ys
+  append_each xs ys = each (xs ++ ys) ∙ map-append number xs ys ∙ ap₂ ◌++◌ (sym (each xs)) (sym (each ys))
+
+  module _ (s : ℕ) (o : List A) where
+    pub part_each : numbers (take (length o - s) (drop s o)) ≡ part_from s (numbers o)
+    part_each = take_each each (drop s o) (length o - s) ∙ ap₂ (λ n xs. take (n - s) xs) (sym (length_each each o)) (drop_each each o s)
+
+    pub part_size : length (numbers (take (length o - s) (drop s o))) ≡ length (numbers o) - s
+    part_size =
+        length_each each (take (length o - s) (drop s o)) ∙ length-take-le (length o - s) (drop s o) (omega (arith, length-drop s o))
+        ∙ ap (λ n. n - s) (sym (length_each each o))
+
+    pub back_each : (p : List A) → numbers (take s o ++ (p ++ drop (length o - s) (drop s o))) ≡ back_from s (numbers o) (numbers p)
+    back_each p =
+        append_each (take s o) (p ++ drop (length o - s) (drop s o))
+        ∙ ap₂ ◌++◌ (take_each each o s) (append_each p (drop (length o - s) (drop s o))
+        ∙ ap (λ xs. numbers p ++ xs) (drop_each each (drop s o) (length o - s)
+        ∙ ap₂ (λ n xs. drop (n - s) xs) (sym (length_each each o)) (drop_each each o s)))
+
+-- ---- lines of the first bare lines
 
 unfoldable pub weave_up_to : Table → Code → ℕ → Lines
 weave_up_to t code zero = []
@@ -90,7 +118,7 @@ other_line t code place i e =
 
 -- ---- what is asked to write a line
 
-module _ (rule bare sizes starts : List ℕ) (size shared past : ℕ) (v : Weaving rule bare sizes starts size shared past) where
+module _ {rule bare sizes starts : List ℕ} {size shared past : ℕ} (v : Weaving rule bare sizes starts size shared past) where
   abbrev table : Table
   table = table_in rule
 
@@ -112,22 +140,22 @@ module _ (rule bare sizes starts : List ℕ) (size shared past : ℕ) (v : Weavi
   woven_line l out room p =
       let z : 1 ≡ line_size table (instruction_at code l) = (other_line table code 0 (instruction_at code l) p).0 in omega arith
 
-  module _ (b : Bool) (n₀ w₀ n w : List ℕ) (c l : ℕ) (i : Filled (weaving_series table code) b 0 n₀ w₀ n w c l) (h : l ≤ length bare)
-      (room : Space 0 (woven_count table code) (stored_in b n₀ w₀)) where
+  module _ (b : Bool) (o₀ : List ℕ) {o : List ℕ} {c l : ℕ} (i : Filled (weaving_series table code) b 0 o₀ o c l) (h : l ≤ length bare)
+      (room : Space 0 (woven_count table code) o₀) where
     all_length : length (weave_up_to table code (length bare)) ≡ woven_count table code
     all_length =
         up_to_length table order code (length bare) (omega (arith, length_bare bare)) ∙ ap (start_of table code) (sym (length_bare bare))
 
-    pub all_room : 8 * (0 + length (weave_up_to table code (length bare))) ≤ length (stored_in b n₀ w₀)
+    pub all_room : 8 * (0 + length (weave_up_to table code (length bare))) ≤ length o₀
     all_room = omega (arith, all_length)
 
     pub woven_start : c ≡ start_of table code l
     woven_start = i.0 ∙ up_to_length table order code l (omega (arith, length_bare bare))
 
     -- the lines written are few, and the output has them
-    pub woven_few : (c ≤ 1024) × (8 * c ≤ length (stored_in b n w))
+    pub woven_few : (c ≤ 1024) × (8 * c ≤ length o)
     woven_few =
-        let r = filled_room (weaving_series table code) b 0 n₀ w₀ n w c l (length bare) i h all_room in
+        let r = filled_room (weaving_series table code) b 0 o₀ o c l (length bare) i h all_room in
         let f = few rule bare v.started.weavable in
         (omega (arith, all_length), omega (arith, all_length))
 
@@ -137,11 +165,12 @@ module _ (rule bare sizes starts : List ℕ) (size shared past : ℕ) (v : Weavi
 
       part_within : c + line_size table (instruction_at code l) ≤ woven_count table code
       part_within =
-          let q = filled_part (weaving_series table code) b 0 n₀ w₀ n w c l (length bare) i h all_room g in omega (arith, line_length_lem, all_length)
+          let q = filled_part (weaving_series table code) b 0 o₀ o c l (length bare) i h all_room g in omega (arith, line_length_lem, all_length)
 
       -- the rest of the output has space for bare line l
-      pub woven_room : (out : List ℕ) → length out ≡ length (stored_in b n w) - 8 * c → Space 0 (line_size table (instruction_at code l)) out
-      woven_room out e = let q = part_within in let s = i.1.same_length in omega arith
+      pub woven_room : (out : List ℕ) → length out ≡ length o - 8 * c → Space 0 (line_size table (instruction_at code l)) out
+      woven_room out e =
+          let q = part_within in let s = (filled_room (weaving_series table code) b 0 o₀ o c l (length bare) i h all_room).1 in omega arith
 
       pub woven_more : c + line_size table (instruction_at code l) ≤ 1024
       woven_more = let q = part_within in let f = few rule bare v.started.weavable in omega arith

@@ -1,5 +1,5 @@
 -- The code of a node with a work bit, part after part.
---     deciding_in, deciding_some                 what deciding asks
+--     deciding_some                              deciding takes at least a line
 --     length_left                                how many lines precede a since node's setting
 --     end_few, end_size, end_left                the rest of a since node's code
 --     since_space, weak_space, shared_space      the lines that a node's code takes: there is room for them
@@ -32,22 +32,6 @@ use Rattle.facts.specs.Written.{Space}
 use Rattle.spec.proofs.BoolLaws.{clash}
 use Rattle.weaver.proofs.DecisionLaws.{size_some}
 
--- a node can be decided into any output of the same length, and its code has a line
-pub deciding_in : (rule sizes : List ℕ) (shared : ℕ) (k base place on_true on_false : ℕ) (out after : List ℕ) → length after ≡ length out
-    → Deciding rule sizes shared false k base place on_true on_false out → Deciding rule sizes shared false k base place on_true on_false after
-deciding_in rule sizes shared k base place on_true on_false out after e d =
-    let o = d.in_output in
-    record {
-      sized = d.sized;
-      shared_is = d.shared_is;
-      is_node = d.is_node;
-      true_line = d.true_line;
-      false_line = d.false_line;
-      in_script = d.in_script;
-      from_base = d.from_base;
-      in_output = omega arith;
-    }
-
 pub deciding_some : (rule sizes : List ℕ) (shared : ℕ) (k base place on_true on_false : ℕ) (out : List ℕ) → Deciding rule sizes shared false k base place on_true on_false out
     → 0 < decide_size (table_in rule) k
 deciding_some rule sizes shared k base place on_true on_false out d = size_some (table_in rule) (rule_out form_in rule d.sized.0).ordered k
@@ -62,7 +46,7 @@ Room k n base place out = (k < 64) × (place + n < most_lines) × (base ≤ plac
 
 -- ---- the rest of a since node's code
 
-module _ (rule sizes : List ℕ) (shared : ℕ) (k : ℕ) {l r : ℕ} (base place : ℕ) (out : List ℕ) (u : Ending rule sizes shared k l r base place out) where
+module _ {rule sizes : List ℕ} {shared k l r base place : ℕ} {out : List ℕ} (u : Ending rule sizes shared k l r base place out) where
   abbrev n : ℕ
   n = get_or sizes l 0
 
@@ -97,7 +81,7 @@ module _ (rule sizes : List ℕ) (shared : ℕ) (k : ℕ) {l r : ℕ} (base plac
 
 -- ---- a since node's code
 
-module _ (rule sizes : List ℕ) (shared : ℕ) (k base place : ℕ) (out : List ℕ) (u : Updating rule sizes shared k base place out) where
+module _ {rule sizes : List ℕ} {shared k base place : ℕ} {out : List ℕ} (u : Updating rule sizes shared k base place out) where
   abbrev t : Table
   t = table_in rule
 
@@ -226,7 +210,7 @@ no_code t (weak_previous_node l) k place F e = clash refl e
 
 -- ---- any node
 
-module _ (rule sizes : List ℕ) (shared : ℕ) (k base place : ℕ) (out : List ℕ) (u : Working rule sizes shared k base place out) where
+module _ {rule sizes : List ℕ} {shared k base place : ℕ} {out : List ℕ} (u : Working rule sizes shared k base place out) where
   abbrev table : Table
   table = table_in rule
 

@@ -9,14 +9,16 @@ ghost use Rattle.sets.specs.Sets.{set_of, capacity};
 ghost use Rattle.facts.specs.FactSets.{facts_of};
 ghost use Rattle.facts.specs.Written.{Space, Written};
 ghost use Rattle.weaver.specs.Parts.{past_nodes, present_lines, guard_lines};
-ghost use Rattle.rule.specs.Nodes.{table_in, stored_in};
+ghost use Rattle.rule.specs.Nodes.{table_in};
 ghost use Rattle.weaver.specs.Laid.{Updatable, Guarding, Blocking};
 
+use crate::Measured;
 use crate::decision::put_decision;
 use crate::update::put_work;
 use facts::line::put_line;
 use facts::{Facts, learn_value};
-use script::instruction::encode;
+use rule::stored::Word;
+use script::instruction::{Opcode, encode};
 use sets::{has, union, with_if};
 
 // The facts M of the nodes in m, W of those in w and C of those in c.
@@ -34,62 +36,31 @@ pub(crate) fn noted(m: u64, w: u64, c: u64) -> Facts
     }
 }
 
-// The code of the nodes with a work bit in rising order, which starts at `place`; `work` is the set of them, `past` of the past ones. Hands
-// back how many lines it has.
-fn put_updates(
-    rule: &[u64],
-    sizes: &[u16; 64],
-    shared: u64,
-    past: u64,
-    work: u64,
-    place: usize,
-    narrow: &mut [u32],
-    wide: &mut [u64],
-    is_wide: bool,
-) -> usize
-    requires { Updatable rule.now sizes.now shared place (stored_in is_wide narrow.old wide.old) × (set_of past ≡ past_nodes (table_in rule.now)) × (set_of work ≡ has_work (table_in rule.now)) }
-    ensures { (result ≡ updates_size (length rule.now) (table_in rule.now))
-        × Written is_wide 0 (updates (length rule.now) (table_in rule.now) place) narrow.old wide.old narrow.new wide.new }
+// The code of the nodes with a work bit in rising order, which starts at `place`; `work` is the set of them. Hands back how many
+// lines it has.
+fn put_updates<W: Word>(rule: &Measured, work: u64, place: usize, out: &mut [W]) -> usize
+    requires { Updatable rule.now.nodes.now rule.now.sizes.now rule.now.shared place (W.numbers out.old) × (set_of rule.now.past ≡ past_nodes (table_in rule.now.nodes.now)) × (set_of work ≡ has_work (table_in rule.now.nodes.now)) }
+    ensures { (result ≡ updates_size (length rule.now.nodes.now) (table_in rule.now.nodes.now))
+        × Written W.IS_WIDE 0 (updates (length rule.now.nodes.now) (table_in rule.now.nodes.now) place) (W.numbers out.old) (W.numbers out.new) }
 {
     let mut n = 0;
     let mut done = 0;
-    let mut k = 0;
-    while k < rule.len() {
-        let x = noted(past, done, 0);
-        n += put_work(
-            rule,
-            sizes,
-            shared,
-            k,
-            place,
-            place + n,
-            x,
-            narrow,
-            wide,
-            is_wide,
-        );
+    for k in 0..rule.nodes.len() {
+        let x = noted(rule.past, done, 0);
+        n += put_work(rule, k, place, place + n, x, out);
         done = with_if(done, k, has(work, k));
-        k += 1;
     }
     n
 }
 
 // A 12 of node k with the facts x if it is a past node. Hands back how many lines that is.
-fn put_keep(
-    k: usize,
-    is_past: bool,
-    x: Facts,
-    at: usize,
-    narrow: &mut [u32],
-    wide: &mut [u64],
-    is_wide: bool,
-) -> usize
-    requires { (k < capacity) × Space at (cond is_past 1 0) (stored_in is_wide narrow.old wide.old) }
+fn put_keep<W: Word>(k: usize, is_past: bool, x: Facts, at: usize, out: &mut [W]) -> usize
+    requires { (k < capacity) × Space at (cond is_past 1 0) (W.numbers out.old) }
     ensures { (result ≡ cond is_past 1 0)
-        × Written is_wide at (cond is_past (line (keep k) (facts_of x) ∷ []) []) narrow.old wide.old narrow.new wide.new }
+        × Written W.IS_WIDE at (cond is_past (line (keep k) (facts_of x) ∷ []) []) (W.numbers out.old) (W.numbers out.new) }
 {
     if is_past {
-        put_line(encode(12, 0, k, 0), x, at, narrow, wide, is_wide);
+        put_line(encode(Opcode::Keep, 0, k, 0), x, at, out);
         1
     } else {
         0
@@ -97,109 +68,59 @@ fn put_keep(
 }
 
 // One 12 for each past node, rising.
-fn put_keeps(
-    rule: &[u64],
-    past: u64,
-    at: usize,
-    narrow: &mut [u32],
-    wide: &mut [u64],
-    is_wide: bool,
-)
-    requires { (length rule.now ≤ capacity) × (set_of past ≡ past_nodes (table_in rule.now)) × Space at (count is_past (table_in rule.now)) (stored_in is_wide narrow.old wide.old) }
-    ensures { Written is_wide at (keeps (length rule.now) (table_in rule.now)) narrow.old wide.old narrow.new wide.new }
+fn put_keeps<W: Word>(rule: &Measured, at: usize, out: &mut [W])
+    requires { (length rule.now.nodes.now ≤ capacity) × (set_of rule.now.past ≡ past_nodes (table_in rule.now.nodes.now)) × Space at (count is_past (table_in rule.now.nodes.now)) (W.numbers out.old) }
+    ensures { Written W.IS_WIDE at (keeps (length rule.now.nodes.now) (table_in rule.now.nodes.now)) (W.numbers out.old) (W.numbers out.new) }
 {
     let mut n = 0;
     let mut done = 0;
-    let mut k = 0;
-    while k < rule.len() {
-        let x = noted(done, 0, past);
-        let is_past = has(past, k);
-        n += put_keep(k, is_past, x, at + n, narrow, wide, is_wide);
+    for k in 0..rule.nodes.len() {
+        let x = noted(done, 0, rule.past);
+        let is_past = has(rule.past, k);
+        n += put_keep(k, is_past, x, at + n, out);
         done = with_if(done, k, is_past);
-        k += 1;
     }
 }
 
 // The present, with T of the last node, and the 12s.
-fn put_present(
-    rule: &[u64],
-    past: u64,
-    x: Facts,
-    at: usize,
-    narrow: &mut [u32],
-    wide: &mut [u64],
-    is_wide: bool,
-)
-    requires { (0 < length rule.now) × (length rule.now ≤ capacity) × (set_of past ≡ past_nodes (table_in rule.now)) × Space at (1 + count is_past (table_in rule.now)) (stored_in is_wide narrow.old wide.old) }
-    ensures { Written is_wide at (present_lines (table_in rule.now) (facts_of x)) narrow.old wide.old narrow.new wide.new }
+fn put_present<W: Word>(rule: &Measured, x: Facts, at: usize, out: &mut [W])
+    requires { (0 < length rule.now.nodes.now) × (length rule.now.nodes.now ≤ capacity) × (set_of rule.now.past ≡ past_nodes (table_in rule.now.nodes.now)) × Space at (1 + count is_past (table_in rule.now.nodes.now)) (W.numbers out.old) }
+    ensures { Written W.IS_WIDE at (present_lines (table_in rule.now.nodes.now) (facts_of x)) (W.numbers out.old) (W.numbers out.new) }
 {
     put_line(
-        encode(8, 0, 0, 0),
-        learn_value(x, rule.len() - 1, true, false),
+        encode(Opcode::Present, 0, 0, 0),
+        learn_value(x, rule.nodes.len() - 1, true, false),
         at,
-        narrow,
-        wide,
-        is_wide,
+        out,
     );
-    put_keeps(rule, past, at + 1, narrow, wide, is_wide);
+    put_keeps(rule, at + 1, out);
 }
 
 // The last node is decided: true leads to the present, false to the end of the block. Line `base` of the script is the first of the output.
-fn put_guard(
-    rule: &[u64],
-    sizes: &[u16; 64],
-    shared: u64,
-    past: u64,
+fn put_guard<W: Word>(
+    rule: &Measured,
     base: usize,
     place: usize,
     end: usize,
     x: Facts,
-    narrow: &mut [u32],
-    wide: &mut [u64],
-    is_wide: bool,
+    out: &mut [W],
 )
-    requires { Guarding rule.now sizes.now shared base place end (stored_in is_wide narrow.old wide.old) × (set_of past ≡ past_nodes (table_in rule.now)) }
-    ensures { Written is_wide (place - base) (guard_lines (table_in rule.now) place end (facts_of x)) narrow.old wide.old narrow.new wide.new }
+    requires { Guarding rule.now.nodes.now rule.now.sizes.now rule.now.shared base place end (W.numbers out.old) × (set_of rule.now.past ≡ past_nodes (table_in rule.now.nodes.now)) }
+    ensures { Written W.IS_WIDE (place - base) (guard_lines (table_in rule.now.nodes.now) place end (facts_of x)) (W.numbers out.old) (W.numbers out.new) }
 {
-    let last = rule.len() - 1;
-    let then = place + sizes[last] as usize;
-    put_decision(
-        rule, sizes, shared, false, last, base, place, then, end, x, narrow, wide, is_wide,
-    );
-    put_present(rule, past, x, then - base, narrow, wide, is_wide);
+    let last = rule.nodes.len() - 1;
+    let then = place + rule.sizes[last] as usize;
+    put_decision(rule, false, last, base, place, then, end, x, out);
+    put_present(rule, x, then - base, out);
 }
 
 // The block at `place`, of `size` lines, into the start of the output.
-pub(crate) fn put_block(
-    rule: &[u64],
-    sizes: &[u16; 64],
-    shared: u64,
-    past: u64,
-    size: usize,
-    place: usize,
-    narrow: &mut [u32],
-    wide: &mut [u64],
-    is_wide: bool,
-)
-    requires { Blocking rule.now sizes.now shared place (stored_in is_wide narrow.old wide.old) × (size ≡ block_size (table_in rule.now)) × (set_of past ≡ past_nodes (table_in rule.now)) }
-    ensures { Written is_wide 0 (block (table_in rule.now) place) narrow.old wide.old narrow.new wide.new }
+pub(crate) fn put_block<W: Word>(rule: &Measured, size: usize, place: usize, out: &mut [W])
+    requires { Blocking rule.now.nodes.now rule.now.sizes.now rule.now.shared place (W.numbers out.old) × (size ≡ block_size (table_in rule.now.nodes.now)) × (set_of rule.now.past ≡ past_nodes (table_in rule.now.nodes.now)) }
+    ensures { Written W.IS_WIDE 0 (block (table_in rule.now.nodes.now) place) (W.numbers out.old) (W.numbers out.new) }
 {
-    let work = union(past, shared);
-    let n = put_updates(
-        rule, sizes, shared, past, work, place, narrow, wide, is_wide,
-    );
-    let x = noted(past, work, 0);
-    put_guard(
-        rule,
-        sizes,
-        shared,
-        past,
-        place,
-        place + n,
-        place + size,
-        x,
-        narrow,
-        wide,
-        is_wide,
-    );
+    let work = union(rule.past, rule.shared);
+    let n = put_updates(rule, work, place, out);
+    let x = noted(rule.past, work, 0);
+    put_guard(rule, place, place + n, place + size, x, out);
 }

@@ -25,10 +25,8 @@ fn load_words(bytes: &[u8], at: usize, n: usize, out: &mut [u32])
     requires { (at ≤ 1000001) × (n ≤ 1000000) × (n ≤ length out.old) }
     ensures { Added (words_from bytes.now at n) 0 n out.old out.new }
 {
-    let mut i: usize = 0;
-    while i < n {
+    for i in 0..n {
         out[i] = word_at(bytes, at + i);
-        i += 1;
     }
 }
 

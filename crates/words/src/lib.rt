@@ -6,19 +6,13 @@ ghost use Rattle.words.specs.Words.{word_at};
 
 pub mod counted;
 
-fn wide(b: u8) -> u32
-    ensures { (result ≡ b) × (result < 256) }
-{
-    b as u32
-}
-
 // Word i of s, or 0 where it is not all there.
 pub fn word_at(s: &[u8], i: usize) -> u32
     ensures { result ≡ word_at s.now i }
 {
     if i < s.len() / 4 {
         let at = 4 * i;
-        ((wide(s[at]) * 256 + wide(s[at + 1])) * 256 + wide(s[at + 2])) * 256 + wide(s[at + 3])
+        u32::from_be_bytes([s[at], s[at + 1], s[at + 2], s[at + 3]])
     } else {
         0
     }

@@ -1,14 +1,20 @@
 -- `checker::check_script` meets its contract: the rule moved and the script have the same answer (`AskLaws`). Assumes nothing.
 use mathlib.Core.Path.{◌∙◌}
-use Rattle.rule.proofs.WidenLaws.{table_length_lem}
-use Rattle.checker.proofs.AskLaws.{script_narrow, script_long}
+use native.Mathlib.Omega.{arith}
+use Rattle.rule.specs.Nodes.{form_by}
+use Rattle.rule.proofs.EachLaws.{length_each}
+use Rattle.checker.proofs.AskLaws.{script_second, script_many}
 use Rattle.checker.proofs.check_script.Goals as goal
 
-pub returns-then-rule-gt32 : goal.returns-then-rule-gt32
-returns-then-rule-gt32 c = script_long c.args.rule.now c.args.script.now c.if-rule-gt32.true
-
-pub slice_bounds-check_in-end : goal.slice_bounds-check_in-end
-slice_bounds-check_in-end c = table_length_lem c.args.rule.now _ _ c.widen_rule.ensures
+pub returns-then-most_nodes-rule : goal.returns-then-most_nodes-rule
+returns-then-most_nodes-rule g c =
+    let there = length_each g.met.W.Word.each c.args.rule.now in
+    script_many (form_by g.W.Word.IS_WIDE) (g.W.Word.numbers c.args.rule.now) (g.W.Word.numbers c.args.script.now)
+    (omega (arith, c.most_nodes.ensures, c.if-most_nodes-rule.true))
 
 pub returns : goal.returns
-returns c = c.check_in.ensures ∙ script_narrow c.args.rule.now _ _ c.args.script.now c.widen_rule.ensures c.if-rule-gt32.false
+returns g c =
+    let there = length_each g.met.W.Word.each c.args.rule.now in
+    c.check_in.ensures
+    ∙ script_second g.W.Word.IS_WIDE (g.W.Word.numbers c.args.rule.now) _ (g.W.Word.numbers c.args.script.now) c.in_second_form.ensures
+    (omega (arith, c.most_nodes.ensures, c.if-most_nodes-rule.false))

@@ -1,21 +1,21 @@
 -- `guard::guard_facts` meets its contract. Assumes nothing.
 use Rattle.largest.specs.Largest.{found_answer, found_output}
-use Rattle.spec.specs.Rule.{form32}
+use Rattle.rule.specs.Nodes.{form_by}
 use Rattle.numbers.proofs.NoteLaws.{count_noted, count_unlent}
 use Rattle.guard.proofs.guard_facts.Goals as goal
 
 pub returns-then-numbers-lt2 : goal.returns-then-numbers-lt2
-returns-then-numbers-lt2 c =
+returns-then-numbers-lt2 g c =
     let a = c.args in
-    let x = found_answer form32 a.rule.now a.instructions.now a.out.now in
-    let after = found_output form32 a.rule.now a.instructions.now a.out.now in
-    let both = count_unlent a.numbers.now a.out.now after x c.if-numbers-lt2.true in
+    let x = found_answer (form_by g.W.Word.IS_WIDE) (g.W.Word.numbers a.rule.now) a.instructions.now (g.W.Word.numbers a.out.now) in
+    let after = found_output (form_by g.W.Word.IS_WIDE) (g.W.Word.numbers a.rule.now) a.instructions.now (g.W.Word.numbers a.out.now) in
+    let both = count_unlent a.numbers.now (g.W.Word.numbers a.out.now) after x c.if-numbers-lt2.true in
     record { result = both.0; words = both.1.0; output = both.1.1 }
 
 pub returns : goal.returns
-returns c =
+returns g c =
     let a = c.args in
-    let x = found_answer form32 a.rule.now a.instructions.now a.out.now in
-    let after = found_output form32 a.rule.now a.instructions.now a.out.now in
-    let both = count_noted a.numbers.now a.out.now after x _ c.find_facts.ensures.answer _ c.find_facts.ensures.output c.if-numbers-lt2.false _ c.note_count.ensures.result _ c.note_count.ensures.words in
+    let x = found_answer (form_by g.W.Word.IS_WIDE) (g.W.Word.numbers a.rule.now) a.instructions.now (g.W.Word.numbers a.out.now) in
+    let after = found_output (form_by g.W.Word.IS_WIDE) (g.W.Word.numbers a.rule.now) a.instructions.now (g.W.Word.numbers a.out.now) in
+    let both = count_noted a.numbers.now (g.W.Word.numbers a.out.now) after x _ c.find_facts.ensures.answer _ c.find_facts.ensures.output c.if-numbers-lt2.false _ c.note_count.ensures.result _ c.note_count.ensures.words in
     record { result = both.0; words = both.1.0; output = both.1.1 }

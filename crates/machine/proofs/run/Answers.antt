@@ -1,20 +1,22 @@
 -- `machine::run` meets its contract: the run of the rule moved and the script (`AnswerLaws`). Assumes nothing.
 use mathlib.Core.Path.{refl}
-use Rattle.spec.specs.Rule.{form32}
+use native.Mathlib.Omega.{arith}
 use Rattle.spec.specs.Questions.{refused}
-use Rattle.rule.proofs.WidenLaws.{table_length_lem}
-use Rattle.machine.proofs.AnswerLaws.{answered, running_narrow, running_long}
+use Rattle.rule.specs.Nodes.{form_by}
+use Rattle.rule.proofs.EachLaws.{length_each}
+use Rattle.machine.proofs.AnswerLaws.{answered, running_second, running_many}
 use Rattle.machine.proofs.run.Goals as goal
 
-pub returns-then-rule-gt32 : goal.returns-then-rule-gt32
-returns-then-rule-gt32 c = let a = c.args in
-    let both = answered form32 a.rule.now a.script.now a.inputs.now a.budget a.history.now (refused 1 0) (running_long a.rule.now a.script.now a.inputs.now a.budget a.history.now c.if-rule-gt32.true) _ _ c.refuse.ensures refl in
+pub returns-then-most_nodes-rule : goal.returns-then-most_nodes-rule
+returns-then-most_nodes-rule g c =
+    let there = length_each g.met.W.Word.each c.args.rule.now in
+    let both = answered (form_by g.W.Word.IS_WIDE) (g.W.Word.numbers c.args.rule.now) (g.W.Word.numbers c.args.script.now) c.args.inputs.now c.args.budget c.args.history.now (refused 1 0) (running_many (form_by g.W.Word.IS_WIDE) (g.W.Word.numbers c.args.rule.now) (g.W.Word.numbers c.args.script.now) c.args.inputs.now c.args.budget c.args.history.now (omega (arith, c.most_nodes.ensures, c.if-most_nodes-rule.true))) _ _ refl refl in
     record { report = both.0; left = both.1.0; safe = both.1.1 }
 
-pub slice_bounds-run_in-end : goal.slice_bounds-run_in-end
-slice_bounds-run_in-end c = table_length_lem c.args.rule.now _ _ c.widen_rule.ensures
-
 pub returns : goal.returns
-returns c = let a = c.args in
-    let both = answered form32 a.rule.now a.script.now a.inputs.now a.budget a.history.now _ (running_narrow a.rule.now _ _ a.script.now a.inputs.now a.budget a.history.now c.widen_rule.ensures c.if-rule-gt32.false) _ _ c.run_in.ensures.report c.run_in.ensures.left in
+returns g c =
+    let there = length_each g.met.W.Word.each c.args.rule.now in
+    let both = answered (form_by g.W.Word.IS_WIDE) (g.W.Word.numbers c.args.rule.now) (g.W.Word.numbers c.args.script.now) c.args.inputs.now c.args.budget c.args.history.now _
+    (running_second g.W.Word.IS_WIDE (g.W.Word.numbers c.args.rule.now) _ (g.W.Word.numbers c.args.script.now) c.args.inputs.now c.args.budget c.args.history.now
+    c.in_second_form.ensures (omega (arith, c.most_nodes.ensures, c.if-most_nodes-rule.false))) _ _ c.run_in.ensures.report c.run_in.ensures.left in
     record { report = both.0; left = both.1.0; safe = both.1.1 }

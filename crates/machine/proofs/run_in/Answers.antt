@@ -1,23 +1,24 @@
 -- `machine::run_in` meets its contract: each return is one of the laws of `AnswerLaws`. Assumes nothing.
-use mathlib.Core.Path.{sym, ap, ◌∙◌}
-use Rattle.rule.specs.Answers.{answer_of}
-use Rattle.machine.proofs.AnswerLaws.{runnable, script_no, inputs_no, runs}
+use mathlib.Core.Path.{sym}
+use Rattle.machine.proofs.AnswerLaws.{runnable, script_no, inputs_no, runs, refused_report}
 use Rattle.machine.proofs.run_in.Goals as goal
 
-pub returns-in-Refused : goal.returns-in-Refused
-returns-in-Refused c = let a = c.args in
-    let both = script_no a.rule.now a.is_wide a.narrow.now a.wide.now a.inputs.now a.budget a.history.now _ _ (sym c.check_in-checked.ensures ∙ ap answer_of c.in-Refused.is) _ c.refuse.ensures in
+pub returns-in_err-check_in : goal.returns-in_err-check_in
+returns-in_err-check_in g c =
+    let no = refused_report c.from_residual.result c.in_err-check_in.field-0.0 c.from_residual.ensures.1 in
+    let both = script_no c.args.rule.now g.W.Word.IS_WIDE (g.W.Word.numbers c.args.script.now) c.args.inputs.now c.args.budget c.args.history.now _ _ (sym c.in_err-check_in.ensures) _ no in
     record { report = both.0; left = both.1 }
 
-pub returns-in-Refused-numbers : goal.returns-in-Refused-numbers
-returns-in-Refused-numbers c = let a = c.args in
-    let both = inputs_no a.rule.now a.is_wide a.narrow.now a.wide.now a.inputs.now a.budget a.history.now (sym c.check_in-checked.ensures ∙ ap answer_of c.in_default.is) _ _ (sym c.ask_numbers-numbers.ensures ∙ ap answer_of c.in-Refused-numbers.is) _ c.refuse-in-Refused-numbers.ensures in
+pub returns-in_err-ask_numbers : goal.returns-in_err-ask_numbers
+returns-in_err-ask_numbers g c =
+    let no = refused_report c.from_residual-in_err-ask_numbers.result c.in_err-ask_numbers.field-0.0 c.from_residual-in_err-ask_numbers.ensures.1 in
+    let both = inputs_no c.args.rule.now g.W.Word.IS_WIDE (g.W.Word.numbers c.args.script.now) c.args.inputs.now c.args.budget c.args.history.now (sym c.in_ok-check_in.ensures) _ _ (sym c.in_err-ask_numbers.ensures) _ no in
     record { report = both.0; left = both.1 }
 
 pub run_from-requires : goal.run_from-requires
-run_from-requires c = let a = c.args in runnable a.rule.now a.is_wide a.narrow.now a.wide.now (sym c.check_in-checked.ensures ∙ ap answer_of c.in_default.is)
+run_from-requires g c = runnable c.args.rule.now g.W.Word.IS_WIDE (g.W.Word.numbers c.args.script.now) (sym c.in_ok-check_in.ensures)
 
 pub returns : goal.returns
-returns c = let a = c.args in
-    let both = runs a.rule.now a.is_wide a.narrow.now a.wide.now a.inputs.now a.budget a.history.now (sym c.check_in-checked.ensures ∙ ap answer_of c.in_default.is) (sym c.ask_numbers-numbers.ensures ∙ ap answer_of c.in_default-numbers.is) _ c.first_priors.ensures _ _ c.run_from.ensures.report c.run_from.ensures.left in
+returns g c =
+    let both = runs c.args.rule.now g.W.Word.IS_WIDE (g.W.Word.numbers c.args.script.now) c.args.inputs.now c.args.budget c.args.history.now (sym c.in_ok-check_in.ensures) (sym c.in_ok-ask_numbers.ensures) _ c.first_priors.ensures _ _ c.run_from.ensures.report c.run_from.ensures.left in
     record { report = both.0; left = both.1 }

@@ -3,49 +3,43 @@
 use mathlib.Core.Path.{refl, sym, ap, ◌∙◌}
 use native.Mathlib.Omega.{arith}
 use Rattle.spec.specs.Machine.{acting}
-use Rattle.rule.specs.Nodes.{form_by, stored_in}
-use Rattle.rule.proofs.EitherLaws.{size_most}
+use Rattle.rule.specs.Nodes.{form_by}
 use Rattle.script.proofs.LineLaws.{word_instruction, line_instruction}
 use Rattle.machine.specs.Machines.{machine_of, state_of, names_held}
 use Rattle.machine.proofs.StepLaws.{within_all, can_out}
 use Rattle.machine.proofs.ReadyLaws.{state_not, state_step}
+use Rattle.rule.proofs.EachLaws.{length_each}
 use Rattle.machine.proofs.step_in.Goals as goal
 
-pub can_run-requires : goal.can_run-requires
-can_run-requires c = c.requires
-
 pub returns-then-not-can_run : goal.returns-then-not-can_run
-returns-then-not-can_run c =
+returns-then-not-can_run g c =
     let a = c.args in
-    state_not a.is_wide (stored_in a.is_wide a.rule.now a.rule_wide.now) a.script.now a.script_wide.now a.inputs.now
+    state_not g.W.Word.IS_WIDE (g.W.Word.numbers a.rule.now) (g.W.Word.numbers a.script.now) a.inputs.now
     (state_of a.m a.history.now) (sym c.can_run.ensures ∙ c.if-not-can_run.true)
 
 pub line_word-word-requires : goal.line_word-word-requires
-line_word-word-requires c =
+line_word-word-requires g c =
     let a = c.args in
-    (can_out a.is_wide a.script.now a.script_wide.now a.m.line a.rule.now a.rule_wide.now c.requires
+    (can_out g.W.Word.IS_WIDE (g.W.Word.numbers a.script.now) a.m.line (g.W.Word.numbers a.rule.now) c.requires
     (sym c.can_run.ensures ∙ c.if-not-can_run.false)).0
 
 pub advance-core-requires : goal.advance-core-requires
-advance-core-requires c =
+advance-core-requires g c =
     let a = c.args in
     let can = sym c.can_run.ensures ∙ c.if-not-can_run.false in
-    let (line, held) = can_out a.is_wide a.script.now a.script_wide.now a.m.line a.rule.now a.rule_wide.now c.requires can in
-    let most = size_most a.is_wide a.script.now a.script_wide.now 4611686018427387904 (omega (arith, c.well_formed)) (omega (arith, c.well_formed)) in
-    (omega arith, ap names_held (word_instruction a.is_wide a.script.now a.script_wide.now a.m.line line _ c.line_word-word.ensures) ∙ held)
-
-pub follow-readiness-requires : goal.follow-readiness-requires
-follow-readiness-requires c = c.requires
+    let (line, held) = can_out g.W.Word.IS_WIDE (g.W.Word.numbers a.script.now) a.m.line (g.W.Word.numbers a.rule.now) c.requires can in
+    let same = ap (λ m. m.line) (c.from.ensures a.history.now) in
+    (omega (arith, length_each g.met.W.Word.each a.script.now, c.well_formed), ap names_held (word_instruction g.W.Word.IS_WIDE (g.W.Word.numbers a.script.now) a.m.line line _ c.line_word-word.ensures) ∙ held)
 
 pub returns : goal.returns
-returns c =
+returns g c =
     let a = c.args in
     let can = sym c.can_run.ensures ∙ c.if-not-can_run.false in
-    let inside = (can_out a.is_wide a.script.now a.script_wide.now a.m.line a.rule.now a.rule_wide.now c.requires can).0 in
+    let inside = (can_out g.W.Word.IS_WIDE (g.W.Word.numbers a.script.now) a.m.line (g.W.Word.numbers a.rule.now) c.requires can).0 in
     let m = machine_of a.m a.history.now in
-    let rules = stored_in a.is_wide a.rule.now a.rule_wide.now in
-    let word = word_instruction a.is_wide a.script.now a.script_wide.now a.m.line inside _ c.line_word-word.ensures in
-    let here = line_instruction a.is_wide a.script.now a.script_wide.now a.m.line inside _ c.line_word-word.ensures _ c.decode.ensures.fields in
-    state_step a.is_wide rules a.script.now a.script_wide.now a.inputs.now (state_of a.m a.history.now) can _
-    (c.advance-core.ensures ∙ ap (λ i. acting a.inputs.now i m) word) _ (sym (within_all (form_by a.is_wide) rules c.requires)) _ here _ refl _
+    let rules = g.W.Word.numbers a.rule.now in
+    let word = word_instruction g.W.Word.IS_WIDE (g.W.Word.numbers a.script.now) a.m.line inside _ c.line_word-word.ensures in
+    let here = line_instruction g.W.Word.IS_WIDE (g.W.Word.numbers a.script.now) a.m.line inside _ c.line_word-word.ensures _ c.decode.ensures.fields in
+    state_step g.W.Word.IS_WIDE rules (g.W.Word.numbers a.script.now) a.inputs.now (state_of a.m a.history.now) can _
+    (c.advance-core.ensures ∙ ap (acting a.inputs.now _) (c.from.ensures a.history.now) ∙ ap (λ i. acting a.inputs.now i m) word) _ (sym (within_all (form_by g.W.Word.IS_WIDE) rules c.requires)) _ here _ refl _
     c.follow-readiness.ensures

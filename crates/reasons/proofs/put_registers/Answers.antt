@@ -1,53 +1,28 @@
--- `reasons::put_registers` meets its contract (`IndexLaws`); before index i the output has the sets below i, and `earlier` and the priors are those after them. The measure is what is left to go through. Assumes nothing.
-use Prim.Native.Nat.{◌-◌, ◌+◌, ◌*◌}
-use mathlib.Core.Path.{◌≡◌, ap}
+-- `reasons::put_registers` meets its contract (`SecondLaws`). Assumes nothing.
+use mathlib.Core.Path.{ap, ◌∙◌}
 use native.Mathlib.Omega.{arith}
-use lib.ListN.{take, drop, length-take, length-drop}
-use borrow.Author.Rules.{rules}
 use Rattle.spec.proofs.RuleLaws.{rule_out}
-use Rattle.rule.specs.Nodes.{form_in}
+use Rattle.rule.specs.Nodes.{form_in, form_by}
+use Rattle.rule.proofs.EachLaws.{length_each}
+use Rattle.intervals.specs.Limits.{check_limits}
 use Rattle.intervals.proofs.LimitsLaws.{asked_out}
-use Rattle.limits.proofs.MonitorLaws.{few_held}
-use Rattle.limits.specs.Monitor.{cans_of}
-use Rattle.reasons.proofs.IndexLaws.{told_start, told_next, told_end, in_output_lem, zeros}
+use Rattle.limits.proofs.SecondLaws.{second_limits}
+use Rattle.reasons.proofs.SecondLaws.{second_put}
 use Rattle.reasons.proofs.put_registers.Goals as goal
 
-pub overflow_sub-last : goal.overflow_sub-last
-overflow_sub-last c = let n = (rule_out form_in c.args.rule.now (asked_out form_in _ _ _ _ c.requires).rule_yes).some_node in omega arith
+pub in_second_form-table-requires : goal.in_second_form-table-requires
+in_second_form-table-requires g c =
+    let there = length_each g.met.W.Word.each c.args.rule.now in
+    let few = (rule_out (form_by g.W.Word.IS_WIDE) (g.W.Word.numbers c.args.rule.now) (asked_out _ _ _ _ _ c.requires).rule_yes).few_nodes in
+    omega arith
 
-pub loop-i-init : goal.loop-i-init
-loop-i-init c = let a = c.args in told_start a.rule.now a.lows.now a.highs.now a.out.now c.requires _ _ c.first_cans-priors.ensures (zeros 64)
-
-pub slice_bounds-evaluate-end-in-loop-i : goal.slice_bounds-evaluate-end-in-loop-i
-slice_bounds-evaluate-end-in-loop-i c = let same = (asked_out form_in _ _ _ _ c.requires).same_length in search rules
-
-pub evaluate-m-requires : goal.evaluate-m-requires
-evaluate-m-requires c = let same = (asked_out form_in _ _ _ _ c.requires).same_length in (simp (length-take, length-drop) (omega arith), simp (length-take, length-drop) (omega arith), (asked_out form_in _ _ _ _ c.requires).rule_yes)
-
-pub registers_at-registers-requires : goal.registers_at-registers-requires
-registers_at-registers-requires c = (asked_out form_in _ _ _ _ c.requires).rule_yes
-
-pub earlier_after-earlier-requires : goal.earlier_after-earlier-requires
-earlier_after-earlier-requires c = (asked_out form_in _ _ _ _ c.requires).rule_yes
-
-pub offset_bounds-registers-last : goal.offset_bounds-registers-last
-offset_bounds-registers-last c = let few = few_held c.args.rule.now (asked_out form_in _ _ _ _ c.requires).rule_yes in omega arith
-
-pub bounds-registers-last : goal.bounds-registers-last
-bounds-registers-last c = let few = few_held c.args.rule.now (asked_out form_in _ _ _ _ c.requires).rule_yes in let n = (rule_out form_in c.args.rule.now (asked_out form_in _ _ _ _ c.requires).rule_yes).some_node in omega arith
-
-pub bounds-out-i : goal.bounds-out-i
-bounds-out-i c = let a = c.args in in_output_lem a.rule.now a.lows.now a.highs.now a.out.now c.requires c.loop-i.i c.loop-i-test.true (cans_of c.loop-i.priors) c.loop-i.earlier c.loop-i.out c.loop-i.invariant
-
-pub loop-i-preserved : goal.loop-i-preserved
-loop-i-preserved c = let a = c.args in
-    let z : 16 * c.loop-i.i + 16 - 16 * c.loop-i.i ≡ 16 = omega arith in
-    told_next a.rule.now a.lows.now a.highs.now a.out.now c.requires c.loop-i.i c.loop-i-test.true (cans_of c.loop-i.priors) c.loop-i.earlier c.loop-i.out c.loop-i.invariant
-    (take (16 * c.loop-i.i + 16 - 16 * c.loop-i.i) (drop (16 * c.loop-i.i) a.lows.now)) (take (16 * c.loop-i.i + 16 - 16 * c.loop-i.i) (drop (16 * c.loop-i.i) a.highs.now)) (ap (λ n. take n (drop (16 * c.loop-i.i) a.lows.now)) z) (ap (λ n. take n (drop (16 * c.loop-i.i) a.highs.now)) z)
-    _ c.evaluate-m.ensures c.registers_at-registers.result c.registers_at-registers.ensures c.earlier_after-earlier.result c.earlier_after-earlier.ensures
-
-pub shape_of-out : goal.shape_of-out
-shape_of-out c = let k = c.loop-i.invariant.kept in search rules
+pub put_sets-requires : goal.put_sets-requires
+put_sets-requires g c = let a = c.args in
+    let b = g.W.Word.IS_WIDE in
+    let r = g.W.Word.numbers a.rule.now in
+    let few = (rule_out (form_by b) r (asked_out _ _ _ _ _ c.requires).rule_yes).few_nodes in
+    ap (λ t. check_limits form_in t a.lows.now a.highs.now a.out.now) c.in_second_form-table.ensures
+    ∙ second_limits b r a.lows.now a.highs.now a.out.now few ∙ c.requires
 
 pub returns : goal.returns
-returns c = let a = c.args in told_end a.rule.now a.lows.now a.highs.now a.out.now c.requires _ _ _ _ c.loop-i-test.false c.loop-i.invariant
+returns g c = let a = c.args in second_put g.W.Word.IS_WIDE (g.W.Word.numbers a.rule.now) a.lows.now a.highs.now _ _ _ c.in_second_form-table.ensures c.put_sets.ensures

@@ -5,7 +5,6 @@ use native.Mathlib.Omega.{arith}
 use Rattle.report.specs.Compiled.{hex_text}
 use Rattle.print.proofs.AddedLaws.{added_as, filled_as}
 use Rattle.report.proofs.NodeLaws.{hex_text_lem, hex_length}
-use borrow.Author.Rules.{rules}
 use Rattle.report.proofs.add_hex.Goals as goal
 
 pub add_bytes-requires : goal.add_bytes-requires

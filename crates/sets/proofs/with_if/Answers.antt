@@ -2,8 +2,5 @@
 use Rattle.sets.proofs.SetLaws.{adding_not}
 use Rattle.sets.proofs.with_if.Goals as goal
 
-pub returns-then-when : goal.returns-then-when
-returns-then-when c = rw c.if-when.true c.with.ensures
-
 pub returns-else-when : goal.returns-else-when
 returns-else-when c = rw c.if-when.false (adding_not _ c.args.k)

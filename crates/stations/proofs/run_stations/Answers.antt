@@ -6,7 +6,7 @@ use borrow.Author.Tests.{eq-eqb, ne_eqb}
 use Rattle.turns.specs.Stations.{four, running_stations}
 use Rattle.rule.specs.Nodes.{form_by}
 use Rattle.machine.specs.declared.Machine.{Machine}
-use Rattle.stations.specs.Views.{either_of, stations_of, states_of, four_in, Answered, ListAnswered}
+use Rattle.stations.specs.Views.{given_of, states_of, four_in, Answered, ListAnswered}
 use Rattle.stations.proofs.AnswerLaws.{list_of, list_refused, list_ran}
 use Rattle.stations.proofs.SafeLaws.{list_safe}
 use Rattle.stations.proofs.run_stations.Goals as goal
@@ -30,22 +30,20 @@ read (_ ∷ _ ∷ _ ∷ _ ∷ []) d e = refl
 read (_ ∷ _ ∷ _ ∷ _ ∷ y ∷ ys) d e = absurd (omega (arith, e))
 
 pub returns-then-states-ne4-clause-answered : goal.returns-then-states-ne4-clause-answered
-returns-then-states-ne4-clause-answered c =
-    list_refused (form_by c.args.is_wide) _ c.args.budget c.args.allowance _ c.args.states.now (ne_eqb _ 4 c.if-states-ne4.true) c.refuse.result c.refuse.ensures
+returns-then-states-ne4-clause-answered g c =
+    list_refused (form_by g.W.Word.IS_WIDE) _ c.args.budget c.args.allowance _ c.args.states.now (ne_eqb _ 4 c.if-states-ne4.true) c.no_four.result c.no_four.ensures
 
 pub returns-clause-safe : goal.returns-clause-safe
-returns-clause-safe c =
+returns-clause-safe g c =
     let a = c.args in
-    let rules = either_of a.is_wide (four a.rule0.now a.rule1.now a.rule2.now a.rule3.now) (four a.rule_wide0.now a.rule_wide1.now a.rule_wide2.now a.rule_wide3.now) in
-    let scripts = either_of a.is_wide (four a.script0.now a.script1.now a.script2.now a.script3.now) (four a.script_wide0.now a.script_wide1.now a.script_wide2.now a.script_wide3.now) in
-    let inputs = four a.inputs0.now a.inputs1.now a.inputs2.now a.inputs3.now in
+    let xs = four a.station0 a.station1 a.station2 a.station3 in
     let lent = four a.history0.now a.history1.now a.history2.now a.history3.now in
+    let s = given_of g.W.Word.numbers xs lent in
     let left = four c.run_all-ran.new.history0 c.run_all-ran.new.history1 c.run_all-ran.new.history2 c.run_all-ran.new.history3 in
-    let given = stations_of rules scripts inputs lent in
     let r = c.run_all-ran.result in
-    let ran = running_stations (form_by a.is_wide) (length a.states.now) given a.budget a.allowance in
-    let four_ran = running_stations (form_by a.is_wide) 4 given a.budget a.allowance in
-    let answered = list_ran (form_by a.is_wide) given a.budget a.allowance lent a.states.now (eq-eqb _ 4 c.if-states-ne4.false) r.answer (states_of r) left
+    let ran = running_stations (form_by g.W.Word.IS_WIDE) (length a.states.now) s a.budget a.allowance in
+    let four_ran = running_stations (form_by g.W.Word.IS_WIDE) 4 s a.budget a.allowance in
+    let answered = list_ran (form_by g.W.Word.IS_WIDE) s a.budget a.allowance lent a.states.now (eq-eqb _ 4 c.if-states-ne4.false) r.answer (states_of r) left
     (subst (λ m. Answered four_ran r.answer m (states_of r) lent left) (read a.states.now _ c.if-states-ne4.false) c.run_all-ran.ensures) in
-    list_safe (form_by a.is_wide) rules scripts inputs lent a.budget a.allowance a.states.now _ left (length a.states.now) r.answer
+    list_safe (form_by g.W.Word.IS_WIDE) s lent a.budget a.allowance a.states.now _ left (length a.states.now) r.answer
     (subst (λ l. ListAnswered ran r.answer a.states.now l lent left) (stored a.states.now r.first r.second r.third r.fourth c.if-states-ne4.false) answered)

@@ -1,17 +1,19 @@
--- `weaver::weave` meets its contract: the rule moved weaves to the same lines (`WeaveLaws.wove_old`). Assumes nothing.
-use Rattle.rule.proofs.WidenLaws.{table_holds, table_length_lem}
-use Rattle.weaver.proofs.WeaveLaws.{many_no, wove_old}
+-- `weaver::weave` meets its contract: the rule in the second form weaves to the same lines (`WeaveLaws.wove_second`). Assumes nothing.
+use native.Mathlib.Omega.{arith}
+use Rattle.rule.proofs.EachLaws.{length_each}
+use Rattle.weaver.proofs.WeaveLaws.{many_no, wove_second}
 use Rattle.weaver.proofs.weave.Goals as goal
 
-pub returns-then-rule-gt32 : goal.returns-then-rule-gt32
-returns-then-rule-gt32 c = let a = c.args in
-    let both = many_no a.rule.now a.bare.now a.out.now c.if-rule-gt32.true in
+pub returns-then-most_nodes-rule : goal.returns-then-most_nodes-rule
+returns-then-most_nodes-rule g c =
+    let a = c.args in
+    let there = length_each g.met.W.Word.each a.rule.now in
+    let both = many_no g.W.Word.IS_WIDE (g.W.Word.numbers a.rule.now) a.bare.now (g.W.Word.numbers a.out.now) (omega (arith, c.most_nodes.ensures, c.if-most_nodes-rule.true)) in
     record { answer = both.0; output = both.1.0; accepted = both.1.1 }
 
-pub slice_bounds-weave_in-end : goal.slice_bounds-weave_in-end
-slice_bounds-weave_in-end c = let a = c.args in table_length_lem a.rule.now _ _ c.widen_rule.ensures
-
 pub returns : goal.returns
-returns c = let a = c.args in
-    let both = wove_old a.rule.now a.bare.now a.out.now _ _ _ _ _ c.if-rule-gt32.false (table_holds a.rule.now _ _ c.widen_rule.ensures) c.weave_in.ensures in
+returns g c =
+    let a = c.args in
+    let there = length_each g.met.W.Word.each a.rule.now in
+    let both = wove_second g.W.Word.IS_WIDE (g.W.Word.numbers a.rule.now) a.bare.now (g.W.Word.numbers a.out.now) _ _ _ (omega (arith, c.most_nodes.ensures, c.if-most_nodes-rule.false)) c.in_second_form.ensures c.weave_in.ensures in
     record { answer = both.0; output = both.1.0; accepted = both.1.1 }

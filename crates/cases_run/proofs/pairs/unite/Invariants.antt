@@ -3,4 +3,4 @@ use Rattle.cases_run.proofs.PairLaws.{Uniting}
 use Rattle.cases_run.proofs.pairs.unite.Given as goal
 
 abbrev pub invariant-loop-i : goal.invariant-loop-i
-invariant-loop-i l = Uniting l.is_wide l.initial.narrow l.initial.wide l.other_narrow l.other_wide l.i l.narrow l.wide
+invariant-loop-i g l = Uniting g.W.Word.IS_WIDE (g.W.Word.numbers l.initial.script) (g.W.Word.numbers l.other) l.i (g.W.Word.numbers l.script)

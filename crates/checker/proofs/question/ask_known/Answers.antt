@@ -1,29 +1,15 @@
--- `checker::question::ask_known` meets its contract: the loop keeps: the lines below l pass (`QuestionLaws.Scanned`). Assumes nothing.
-use native.Mathlib.Omega.{arith}
-use mathlib.Core.Path.{sym, ◌∙◌}
-use Rattle.spec.proofs.QuestionLaws.{scanned_start, scanned_next, scan_no, scan_yes}
+-- `checker::question::ask_known` meets its contract: question 10 is put to every line (`AskLaws`). Assumes nothing.
+use Rattle.std.proofs.Common.{rules, ◌≡◌, ◌∙◌, sym, ap, ℕ, Bool}
+use Rattle.spec.specs.Questions.{ask}
+use Rattle.spec.specs.Check.{present_known, question10}
+use Rattle.rule.specs.Nodes.{table_in}
+use Rattle.script.specs.Lines.{line_in}
 use Rattle.checker.proofs.AskLaws.{asked_lines}
-use Rattle.spec.specs.Check.{question10}
-use Rattle.checker.proofs.question.ask_known.Invariants.{ok}
 use Rattle.checker.proofs.question.ask_known.Goals as goal
-
-pub loop-l-init : goal.loop-l-init
-loop-l-init c = (c.requires, scanned_start (ok c.args.rule.now c.args.is_wide c.args.narrow.now c.args.wide.now) _)
-
-pub present_known-requires : goal.present_known-requires
-present_known-requires c = let e = c.count_lines-lines.ensures in (c.loop-l.invariant.0.0, c.loop-l.invariant.0.1, omega (arith, c.loop-l-test.true))
-
-pub returns-then-not-present_known : goal.returns-then-not-present_known
-unfolding question10
-returns-then-not-present_known c = let a = c.args in
-    scan_no 10 _ (ok a.rule.now a.is_wide a.narrow.now a.wide.now) c.loop-l.l (omega (arith, c.count_lines-lines.ensures, c.loop-l-test.true)) (sym c.present_known.ensures ∙ c.if-not-present_known.true) c.loop-l.invariant.1 ∙ asked_lines a.is_wide a.narrow.now a.wide.now 10 (ok a.rule.now a.is_wide a.narrow.now a.wide.now)
-
-pub loop-l-preserved : goal.loop-l-preserved
-unfolding question10
-loop-l-preserved c = let a = c.args in
-    (c.loop-l.invariant.0, scanned_next (ok a.rule.now a.is_wide a.narrow.now a.wide.now) _ c.loop-l.l (omega (arith, c.count_lines-lines.ensures, c.loop-l-test.true)) (sym c.present_known.ensures ∙ c.if-not-present_known.false) c.loop-l.invariant.1)
 
 pub returns : goal.returns
 unfolding question10
-returns c = let a = c.args in
-    scan_yes 10 _ (ok a.rule.now a.is_wide a.narrow.now a.wide.now) _ (omega (arith, c.count_lines-lines.ensures, c.loop-l-test.false)) c.loop-l.invariant.1 ∙ asked_lines a.is_wide a.narrow.now a.wide.now 10 (ok a.rule.now a.is_wide a.narrow.now a.wide.now)
+returns g c = let a = c.args in
+    let ok : ℕ → Bool = λ l. present_known (table_in a.rule.now) (line_in g.W.Word.IS_WIDE (g.W.Word.numbers a.script.now) l) in
+    let put = c.ask_each.ensures ok (λ l yes h p. let e : yes ≡ ok l = search rules in sym e) in
+    put ∙ ap (λ n. ask 10 n ok) c.count_lines.ensures ∙ asked_lines g.W.Word.IS_WIDE (g.W.Word.numbers a.script.now) 10 ok

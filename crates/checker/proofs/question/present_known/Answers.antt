@@ -13,13 +13,13 @@ use Rattle.checker.proofs.AskLaws.{present_yes, present_no}
 use Rattle.checker.proofs.question.present_known.Goals as goal
 
 pub returns-then-is_present : goal.returns-then-is_present
-returns-then-is_present c = let a = c.args in
+returns-then-is_present g c = let a = c.args in
     let t = table_in a.rule.now in
     let z : length a.rule.now - 1 ≡ length t - 1 = ap (λ n. n - 1) (sym (length_table form_in a.rule.now)) in
     let closed = c.close_facts-x.ensures ∙ ap (close t) c.read_facts.ensures in
-    present_yes a.rule.now a.is_wide a.narrow.now a.wide.now a.l c.requires.2 _ _ (c.is_present.ensures ∙ ap is_present (line_instruction c.args.is_wide c.args.narrow.now c.args.wide.now c.args.l c.requires.2 _ c.line_word.ensures _ c.decode.ensures.fields)) c.if-is_present.true
-    (c.has.ensures ∙ ap (λ (F : Facts). F (value_is true) (length a.rule.now - 1)) closed ∙ ap (close t (line_in a.is_wide a.narrow.now a.wide.now a.l).annotation (value_is true)) z)
+    present_yes a.rule.now g.W.Word.IS_WIDE (g.W.Word.numbers a.script.now) a.l c.requires.2 _ _ (c.is_present.ensures ∙ ap is_present (line_instruction g.W.Word.IS_WIDE (g.W.Word.numbers c.args.script.now) c.args.l c.requires.2 _ c.line_word.ensures _ c.decode.ensures.fields)) c.if-is_present.true
+    (c.has.ensures ∙ ap (λ (F : Facts). F (value_is true) (length a.rule.now - 1)) closed ∙ ap (close t (line_in g.W.Word.IS_WIDE (g.W.Word.numbers a.script.now) a.l).annotation (value_is true)) z)
 
 pub returns-else-is_present : goal.returns-else-is_present
-returns-else-is_present c = let a = c.args in
-    present_no a.rule.now a.is_wide a.narrow.now a.wide.now a.l c.requires.2 _ (c.is_present.ensures ∙ ap is_present (line_instruction c.args.is_wide c.args.narrow.now c.args.wide.now c.args.l c.requires.2 _ c.line_word.ensures _ c.decode.ensures.fields)) c.if-is_present.false
+returns-else-is_present g c = let a = c.args in
+    present_no a.rule.now g.W.Word.IS_WIDE (g.W.Word.numbers a.script.now) a.l c.requires.2 _ (c.is_present.ensures ∙ ap is_present (line_instruction g.W.Word.IS_WIDE (g.W.Word.numbers c.args.script.now) c.args.l c.requires.2 _ c.line_word.ensures _ c.decode.ensures.fields)) c.if-is_present.false

@@ -1,9 +1,10 @@
--- `finder::search::settle` meets its contract. The loop keeps `SearchLaws.Settling`; its measure is the sum of the words, and one more while it goes on. Assumes nothing.
-use Rattle.finder.proofs.SearchLaws.{Settling, left}
+-- `finder::search::settle` meets its contract. The loop keeps `SearchLaws.Settling`; its measure is the sum of the words. Assumes nothing.
+use Rattle.finder.specs.Rows.{total}
+use Rattle.finder.proofs.SearchLaws.{Settling}
 use Rattle.finder.proofs.search.settle.Given as goal
 
-abbrev pub invariant-loop-again : goal.invariant-loop-again
-invariant-loop-again l = Settling l.rule l.code l.initial.notes l.initial.flags l.notes l.flags l.again
+abbrev pub invariant-loop : goal.invariant-loop
+invariant-loop l = Settling l.rule l.code l.initial.notes l.initial.flags l.notes l.flags
 
-abbrev pub decreases-loop-again : goal.decreases-loop-again
-decreases-loop-again l = left l.notes l.again
+abbrev pub decreases-loop : goal.decreases-loop
+decreases-loop l = total l.notes

@@ -1,4 +1,4 @@
--- `limits::answers::put_answers` meets its contract (`AnswerLaws`, `MonitorLaws`); before index i the output has the answers below i, and the priors are those after them. The measure is what is left to go through. Assumes nothing.
+-- `limits::answers::put_answers` meets its contract (`AnswerLaws`, `MonitorLaws`); before index i the output has the answers below i, and the priors are those after them. Assumes nothing.
 use Prim.Native.Nat.{◌-◌, ◌+◌, ◌*◌}
 use mathlib.Core.Path.{◌≡◌, ap}
 use native.Mathlib.Omega.{arith}
@@ -8,7 +8,7 @@ use Rattle.spec.proofs.RuleLaws.{rule_out}
 use Rattle.rule.specs.Nodes.{form_in}
 use Rattle.intervals.proofs.LimitsLaws.{asked_out}
 use Rattle.limits.proofs.MonitorLaws.{few_held}
-use Rattle.limits.proofs.AnswerLaws.{worked_start, worked_next, worked_end, in_output_lem, keeps_length}
+use Rattle.limits.proofs.AnswerLaws.{worked_start, worked_next, in_output_lem}
 use Rattle.limits.specs.Monitor.{cans_of}
 use Rattle.limits.proofs.answers.put_answers.Goals as goal
 
@@ -36,9 +36,3 @@ loop-i-preserved c = let a = c.args in
     worked_next a.rule.now a.lows.now a.highs.now a.out.now c.requires c.loop-i.i c.loop-i-test.true (cans_of c.loop-i.priors) c.loop-i.out c.loop-i.invariant
     (take (16 * c.loop-i.i + 16 - 16 * c.loop-i.i) (drop (16 * c.loop-i.i) a.lows.now)) (take (16 * c.loop-i.i + 16 - 16 * c.loop-i.i) (drop (16 * c.loop-i.i) a.highs.now)) (ap (λ n. take n (drop (16 * c.loop-i.i) a.lows.now)) z) (ap (λ n. take n (drop (16 * c.loop-i.i) a.highs.now)) z)
     _ c.evaluate-m.ensures _ c.can_at.ensures _ c.byte_of.ensures
-
-pub shape_of-out : goal.shape_of-out
-shape_of-out c = let a = c.args in keeps_length a.rule.now a.lows.now a.highs.now a.out.now c.requires _ _ _ c.loop-i.invariant
-
-pub returns : goal.returns
-returns c = let a = c.args in worked_end a.rule.now a.lows.now a.highs.now a.out.now c.requires _ _ _ c.loop-i-test.false c.loop-i.invariant

@@ -1,35 +1,9 @@
 -- `limits::monitor::node_can` meets its contract (`MonitorLaws`). Assumes nothing.
-use Prim.Native.Nat.{◌<◌}
-use mathlib.Core.Path.{◌≡◌, refl, sym, ap, ap₂, subst, ◌∙◌}
-use mathlib.Core.Bool.{true}
-use native.Mathlib.Omega.{arith}
-use borrow.Author.Tests.{ltb-true}
-use Rattle.spec.specs.Rule.{node_allowed}
-use Rattle.rule.specs.Nodes.{node_read, NodeSmall}
+use mathlib.Core.Path.{refl, sym, ap, ap₂, ◌∙◌}
+use Rattle.rule.specs.Nodes.{node_read}
 use Rattle.limits.proofs.MonitorLaws.{both_sides}
 use Rattle.limits.specs.Monitor.{implies_can, since_can, cans_of, node_can}
 use Rattle.limits.proofs.monitor.node_can.Goals as goal
-
-pub equal_can-requires : goal.equal_can-requires
-equal_can-requires c = let small = subst NodeSmall (ap node_read c.in-Equal.is) c.requires.2 in let lo = c.requires.0 in let hi = c.requires.1 in (omega (arith, small.0), omega (arith, small.0))
-
-pub below_can-requires : goal.below_can-requires
-below_can-requires c = let small = subst NodeSmall (ap node_read c.in-Below.is) c.requires.2 in let lo = c.requires.0 in let hi = c.requires.1 in (omega (arith, small.0), omega (arith, small.0))
-
-pub can_at-requires : goal.can_at-requires
-can_at-requires c = (subst NodeSmall (ap node_read c.in-Implies.is) c.requires.2).0
-
-pub can_at-requires-in-Implies : goal.can_at-requires-in-Implies
-can_at-requires-in-Implies c = (subst NodeSmall (ap node_read c.in-Implies.is) c.requires.2).1
-
-pub can_at-requires-in-Since : goal.can_at-requires-in-Since
-can_at-requires-in-Since c = (subst NodeSmall (ap node_read c.in-Since.is) c.requires.2).0
-
-pub can_at-requires-in-Since-2 : goal.can_at-requires-in-Since-2
-can_at-requires-in-Since-2 c = (subst NodeSmall (ap node_read c.in-Since.is) c.requires.2).1
-
-pub equal_registers_can-requires : goal.equal_registers_can-requires
-equal_registers_can-requires c = let small = subst NodeSmall (ap node_read c.in-EqualRegisters.is) c.requires.2 in let lo = c.requires.0 in let hi = c.requires.1 in let other : c.in-EqualRegisters.other < 16 = ltb-true c.in-EqualRegisters.other 16 (subst (λ y. node_allowed y ≡ true) (ap node_read c.in-EqualRegisters.is) c.requires.3) in (omega (arith, small.0), omega (arith, small.0), omega arith, omega arith)
 
 pub returns-in-False : goal.returns-in-False
 unfolding node_can

@@ -1,21 +1,17 @@
--- `limits::question::all_ordered` meets its contract (`QuestionLaws`); so far no low was above its high. The measure is what is left to go through. Assumes nothing.
-use mathlib.Core.Path.{◌≡◌, refl, ap, ◌∙◌}
-use mathlib.Core.Bool.{◌&&◌}
-use native.Mathlib.Omega.{arith}
-use native.Mathlib.Numerals.{add-one}
-use lib.ListN.{length}
-use borrow.Author.Rules.{rules}
-use Rattle.spec.specs.Questions.{all_below}
-use Rattle.limits.proofs.QuestionLaws.{in_order}
+-- `limits::question::all_ordered` meets its contract (`QuestionLaws`). Assumes nothing.
+use mathlib.Core.Bool.{true, ◌&&◌}
+use Prim.Native.Nat.{ℕ}
+use lib.Dec.{leb}
+use Rattle.std.proofs.Common.{rules, tests}
+use Rattle.std.proofs.lemmas.Iterator.{YieldsList-from_slice, YieldsList-from_zip}
+use Rattle.std.proofs.lemmas.Iterator.Consumers.{fold_from_yields_List}
+use Rattle.limits.proofs.QuestionLaws.{all_are}
 use Rattle.limits.proofs.question.all_ordered.Goals as goal
 
-pub loop-i-init : goal.loop-i-init
-unfolding all_below
-loop-i-init c = (search rules, search rules, refl)
-
-pub loop-i-preserved : goal.loop-i-preserved
-unfolding all_below
-loop-i-preserved c = let a = c.args in (search rules, search rules, rw add-one (ap (λ b. b && in_order a.lows.now a.highs.now c.loop-i.i) c.loop-i.invariant.2))
-
 pub returns : goal.returns
-returns c = let a = c.args in let e : c.loop-i.i ≡ length a.lows.now = omega arith in c.loop-i.invariant.2 ∙ ap (λ n. all_below n (in_order a.lows.now a.highs.now)) e
+returns c = let a = c.args in
+    all_are a.lows.now a.highs.now c.requires c.fold.result (
+    fold_from_yields_List _ (λ b (p : ℕ × ℕ). b && leb p.0 p.1) true _ c.fold.ensures.ran
+    (YieldsList-from_zip (YieldsList-from_slice a.lows.now cc) (YieldsList-from_slice a.highs.now cc))
+    (λ b x d q k. search (rules, tests))
+    )

@@ -1,28 +1,27 @@
--- `machine::Machine::fresh` meets its contract: the rule moved, as far as it is looked at, has the same start (`RunMoveLaws.fresh_within`). Assumes nothing.
-use mathlib.Core.Path.{refl, sym, ap, ◌∙◌}
-use lib.ListN.{take}
-use lib.Seq.{length-take-le}
-use Rattle.spec.specs.Rule.{form64}
-use Rattle.spec.specs.Ready.{fresh_state_of}
-use Rattle.moves.specs.Moves.{widen_rule}
-use Rattle.moves.proofs.RunMoveLaws.{fresh_within}
-use Rattle.machine.proofs.StartLaws.{table_first, table_count}
+-- `machine::Machine::fresh` meets its contract: of as many nodes as the form allows (`ReadyLaws.fresh_state`). Assumes nothing.
+use mathlib.Core.Path.{sym, subst, ap, ◌∙◌}
+use Prim.Native.Nat.{◌≤◌}
 use native.Mathlib.Omega.{arith}
+use lib.ListN.{length}
+use Rattle.rule.specs.Nodes.{form_by, second_form}
+use Rattle.rule.proofs.EachLaws.{length_each}
+use Rattle.rule.proofs.SecondLaws.{second_few}
+use Rattle.machine.proofs.StepLaws.{few_cut}
+use Rattle.machine.proofs.ReadyLaws.{fresh_state}
 use Rattle.machine.proofs.Machine.fresh.Goals as goal
 
-pub slice_bounds-widen_rule-end : goal.slice_bounds-widen_rule-end
-slice_bounds-widen_rule-end c = sym (length-take-le c.at_most-n.result c.args.rule.now c.at_most-n.ensures.0)
+pub in_second_form-requires : goal.in_second_form-requires
+in_second_form-requires g c =
+    let there = length_each g.met.W.Word.each c.first_nodes.result.now in
+    let few = subst (λ r. length r ≤ (form_by g.W.Word.IS_WIDE).width) (sym c.first_nodes.ensures) (few_cut (form_by g.W.Word.IS_WIDE) (g.W.Word.numbers c.args.rule.now)) in
+    omega arith
 
-pub widen_rule-requires : goal.widen_rule-requires
-widen_rule-requires c = let n = c.at_most-n.result in let few = take n c.args.rule.now in let e = length-take-le n c.args.rule.now c.at_most-n.ensures.0 in let m = c.at_most-n.ensures.1 in omega arith
-
-pub slice_bounds-table-end : goal.slice_bounds-table-end
-slice_bounds-table-end c = let m = c.at_most-n.ensures.1 in omega arith
-
-pub slice_bounds-fresh64-end : goal.slice_bounds-fresh64-end
-slice_bounds-fresh64-end c = let n = c.at_most-n.result in let few = take n c.args.rule.now in let e = length-take-le n c.args.rule.now c.at_most-n.ensures.0 in table_count n few _ _ c.widen_rule.ensures e
+pub first_readiness-readiness-requires : goal.first_readiness-readiness-requires
+first_readiness-readiness-requires g c =
+    let few = subst (λ r. length r ≤ (form_by g.W.Word.IS_WIDE).width) (sym c.first_nodes.ensures) (few_cut (form_by g.W.Word.IS_WIDE) (g.W.Word.numbers c.args.rule.now)) in
+    subst (λ r. length r ≤ 64) (sym c.in_second_form.ensures) (second_few g.W.Word.IS_WIDE (g.W.Word.numbers c.first_nodes.result.now) few)
 
 pub returns : goal.returns
-returns c = let n = c.at_most-n.result in let few = take n c.args.rule.now in let e = length-take-le n c.args.rule.now c.at_most-n.ensures.0 in λ lent. c.fresh64.ensures lent
-    ∙ ap (λ r. fresh_state_of form64 r lent) (table_first n few _ _ c.widen_rule.ensures e ∙ ap widen_rule (c.at_most-n.ensures.2 c.args.rule.now refl))
-    ∙ fresh_within c.args.rule.now lent
+returns g c =
+    fresh_state g.W.Word.IS_WIDE (g.W.Word.numbers c.args.rule.now) _ _ c.first_readiness-readiness.ensures
+    (c.in_second_form.ensures ∙ ap (second_form g.W.Word.IS_WIDE) c.first_nodes.ensures)

@@ -1,30 +1,43 @@
 -- `machine::running::before_step` meets its contract, by opcode (`RunLaws`). Assumes nothing.
-use Rattle.spec.proofs.OpcodeLaws.{opcode_0, opcode_high}
+use Rattle.spec.proofs.BoolLaws.{clash}
 use Rattle.machine.specs.Machines.{machine_at}
-use Rattle.script.specs.Lines.{fields_in}
 use Rattle.machine.proofs.RunLaws.{stop_halted, stop_spent, stop_dry, stop_full, go_input, go_present, go_other}
+use Rattle.machine.proofs.running.before_step.Goals.{in-Halt, in_default}
 use Rattle.machine.proofs.running.before_step.Goals as goal
 
-pub returns-then-opcode-eq0 : goal.returns-then-opcode-eq0
-returns-then-opcode-eq0 c = let a = c.args in λ registers. stop_halted (fields_in a.x) a.inputs.now (machine_at registers a.core a.history.now) a.spent (opcode_0 (fields_in a.x) c.if-opcode-eq0.true)
-
-pub returns-then-opcode-gt14 : goal.returns-then-opcode-gt14
-returns-then-opcode-gt14 c = let a = c.args in λ registers. stop_halted (fields_in a.x) a.inputs.now (machine_at registers a.core a.history.now) a.spent (opcode_high (fields_in a.x) c.if-opcode-gt14.true)
+pub returns-then-matches : goal.returns-then-matches
+returns-then-matches c = let a = c.args in let x = a.x in λ registers.
+    elim c.match-matches.branch [
+      | in-Halt w ↦ stop_halted x.r x.c x.target a.inputs.now (machine_at registers a.core a.history.now) x.opcode a.spent w.in-Halt.is
+      | in_default w ↦ clash c.if-matches.true w.matches-is
+    ]
 
 pub returns-then-spent : goal.returns-then-spent
-returns-then-spent c = let a = c.args in λ registers. stop_spent (fields_in a.x) a.inputs.now (machine_at registers a.core a.history.now) a.spent c.if-spent.true c.if-opcode-eq0.false c.if-opcode-gt14.false
+returns-then-spent c = let a = c.args in let x = a.x in λ registers.
+    elim c.match-matches.branch [
+      | in-Halt w ↦ clash w.matches-is c.if-matches.false
+      | in_default w ↦ stop_spent x.r x.c x.target a.inputs.now (machine_at registers a.core a.history.now) x.opcode a.spent c.if-spent.true w.in_default.not-Halt w.in_default.not-Unknown
+    ]
 
-pub returns-then-inputs-reads : goal.returns-then-inputs-reads
-returns-then-inputs-reads c = let a = c.args in λ registers. stop_dry (fields_in a.x) a.inputs.now (machine_at registers a.core a.history.now) a.spent c.if-spent.false c.if-opcode-eq4.true c.if-inputs-reads.true
+pub returns-then-inputs-core : goal.returns-then-inputs-core
+returns-then-inputs-core c = let a = c.args in let x = a.x in λ registers.
+    stop_dry x.r x.c x.target a.inputs.now (machine_at registers a.core a.history.now) x.opcode a.spent c.if-spent.false c.in-Input.is c.if-inputs-core.true
 
-pub returns-then-opcode-eq4 : goal.returns-then-opcode-eq4
-returns-then-opcode-eq4 c = let a = c.args in λ registers. go_input (fields_in a.x) a.inputs.now (machine_at registers a.core a.history.now) a.spent c.if-spent.false c.if-opcode-eq4.true c.if-inputs-reads.false
+pub returns-else-inputs-core : goal.returns-else-inputs-core
+returns-else-inputs-core c = let a = c.args in let x = a.x in λ registers.
+    go_input x.r x.c x.target a.inputs.now (machine_at registers a.core a.history.now) x.opcode a.spent c.if-spent.false c.in-Input.is c.if-inputs-core.false
 
-pub returns-then-history-presentations : goal.returns-then-history-presentations
-returns-then-history-presentations c = let a = c.args in λ registers. stop_full (fields_in a.x) a.inputs.now (machine_at registers a.core a.history.now) a.spent c.if-spent.false c.if-opcode-eq8.true c.if-history-presentations.true
+pub returns-then-history-core : goal.returns-then-history-core
+returns-then-history-core c = let a = c.args in let x = a.x in λ registers.
+    stop_full x.r x.c x.target a.inputs.now (machine_at registers a.core a.history.now) x.opcode a.spent c.if-spent.false c.in-Present.is c.if-history-core.true
 
-pub returns-then-opcode-eq8 : goal.returns-then-opcode-eq8
-returns-then-opcode-eq8 c = let a = c.args in λ registers. go_present (fields_in a.x) a.inputs.now (machine_at registers a.core a.history.now) a.spent c.if-spent.false c.if-opcode-eq8.true c.if-history-presentations.false
+pub returns-else-history-core : goal.returns-else-history-core
+returns-else-history-core c = let a = c.args in let x = a.x in λ registers.
+    go_present x.r x.c x.target a.inputs.now (machine_at registers a.core a.history.now) x.opcode a.spent c.if-spent.false c.in-Present.is c.if-history-core.false
 
-pub returns : goal.returns
-returns c = let a = c.args in λ registers. go_other (fields_in a.x) a.inputs.now (machine_at registers a.core a.history.now) a.spent c.if-spent.false c.if-opcode-eq0.false c.if-opcode-gt14.false c.if-opcode-eq4.false c.if-opcode-eq8.false
+pub returns-in_default-opcode : goal.returns-in_default-opcode
+returns-in_default-opcode c = let a = c.args in let x = a.x in λ registers.
+    elim c.match-matches.branch [
+      | in-Halt w ↦ clash w.matches-is c.if-matches.false
+      | in_default w ↦ go_other x.r x.c x.target a.inputs.now (machine_at registers a.core a.history.now) x.opcode a.spent c.if-spent.false w.in_default.not-Halt w.in_default.not-Unknown c.in_default-opcode.not-Input c.in_default-opcode.not-Present
+    ]

@@ -11,16 +11,15 @@ use Rattle.machine.specs.Machines.{machine_at}
 use Rattle.machine.specs.Runs.{run_from}
 use Rattle.script.specs.Lines.{lines_in}
 use mathlib.Core.Bool.{Bool}
-use Rattle.rule.specs.Nodes.{stored_in}
 use Rattle.machine.proofs.running.run_from.Given as goal
 
-abbrev pub code : (b : Bool) (narrow wide : List ℕ) → Code
-code b narrow wide = code_of (lines_in b narrow wide)
+abbrev pub code : (b : Bool) (script : List ℕ) → Code
+code b script = code_of (lines_in b script)
 
-abbrev pub invariant-loop-registers : goal.invariant-loop-registers
-invariant-loop-registers l =
-    (l.core.line < length (stored_in l.is_wide l.narrow l.wide) / 8) × (l.steps ≤ l.budget) × (length l.history ≡ length l.initial.history)
-    × (run (l.budget - l.steps) (code l.is_wide l.narrow l.wide) l.inputs l.steps (machine_at l.registers l.core l.history) ≡ run_from l.kept l.is_wide l.narrow l.wide l.inputs l.budget l.initial.history)
+abbrev pub invariant-loop-stop : goal.invariant-loop-stop
+invariant-loop-stop g l =
+    (l.core.line < length (g.W.Word.numbers l.script) / 8) × (l.steps ≤ l.budget) × (length l.history ≡ length l.initial.history)
+    × (run (l.budget - l.steps) (code g.W.Word.IS_WIDE (g.W.Word.numbers l.script)) l.inputs l.steps (machine_at l.registers l.core l.history) ≡ run_from l.kept g.W.Word.IS_WIDE (g.W.Word.numbers l.script) l.inputs l.budget l.initial.history)
 
-abbrev pub decreases-loop-registers : goal.decreases-loop-registers
-decreases-loop-registers l = l.budget - l.steps
+abbrev pub decreases-loop-stop : goal.decreases-loop-stop
+decreases-loop-stop g l = l.budget - l.steps

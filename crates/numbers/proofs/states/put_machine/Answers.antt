@@ -3,31 +3,12 @@ use mathlib.Core.Path.{sym, ap, ◌∙◌}
 use mathlib.Core.List.{List, [], ◌∷◌, ◌++◌}
 use Prim.Native.Nat.{ℕ}
 use native.Mathlib.Omega.{arith}
-use lib.ListN.{drop, length-set}
+use lib.ListN.{drop}
 use Rattle.numbers.proofs.NoteLaws.{then_registers}
 use Rattle.numbers.proofs.StateLaws.{words_of, put_words}
 use Rattle.machine.specs.Machines.{readiness_of}
 use Rattle.numbers.specs.States.{readiness_words}
 use Rattle.numbers.proofs.states.put_machine.Goals as goal
-
-pub bounds-state-1 : goal.bounds-state-1
-bounds-state-1 c = simp length-set (omega arith)
-
-pub bounds-state-2 : goal.bounds-state-2
-bounds-state-2 c = simp length-set (omega arith)
-
-pub bounds-state-3 : goal.bounds-state-3
-bounds-state-3 c = simp length-set (omega arith)
-
-pub bounds-state-4 : goal.bounds-state-4
-bounds-state-4 c = simp length-set (omega arith)
-
-pub note_registers-requires : goal.note_registers-requires
-note_registers-requires c =
-    let n = c.put_readiness.auto.state in simp length-set (omega arith)
-
-pub shape_of-state : goal.shape_of-state
-shape_of-state c = c.note_registers.auto.numbers ∙ simp length-set c.put_readiness.auto.state
 
 pub returns : goal.returns
 returns c = λ h.

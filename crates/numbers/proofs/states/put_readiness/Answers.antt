@@ -4,7 +4,7 @@ use mathlib.Core.Bool.{Bool, true, false, cond}
 use mathlib.Core.List.{List, [], ◌∷◌, ◌++◌}
 use Prim.Native.Nat.{ℕ}
 use native.Mathlib.Omega.{arith}
-use lib.ListN.{take, drop, length-set}
+use lib.ListN.{take, drop}
 use lib.Seq.{sets, sets-eq}
 use mir.Val.{bool_byte}
 use Rattle.numbers.proofs.StateLaws.{ready_words}
@@ -14,12 +14,6 @@ use Rattle.numbers.proofs.states.put_readiness.Goals as goal
 bit : (b : Bool) → bool_byte b ≡ cond b 1 0
 bit true = refl
 bit false = refl
-
-pub bounds-state-22 : goal.bounds-state-22
-bounds-state-22 c = simp length-set (omega arith)
-
-pub bounds-state-23 : goal.bounds-state-23
-bounds-state-23 c = simp length-set (omega arith)
 
 pub returns : goal.returns
 returns c =

@@ -1,40 +1,31 @@
--- `reasons::nodes::earlier_after` meets its contract (`RegisterLaws`); the sets of the nodes below k are as the definition has them. The measure is what is left to go through. Assumes nothing.
+-- `reasons::nodes::earlier_after` meets its contract (`RegisterLaws`); the sets of the nodes below k are as the definition has them. Assumes nothing.
 use Prim.Native.Nat.{suc, ◌<◌}
-use mathlib.Core.Path.{refl, sym, ap, subst, ◌∙◌}
+use mathlib.Core.Path.{sym, ap, subst, ◌∙◌}
 use native.Mathlib.Omega.{arith}
 use native.Mathlib.Numerals.{add-one}
 use lib.ListN.{length, get_or, set, length-set}
-use borrow.Author.Rules.{rules}
 use Rattle.spec.proofs.RuleLaws.{rule_out}
 use Rattle.rule.specs.Nodes.{form_in, table_in}
 use Rattle.limits.proofs.MonitorLaws.{few_held}
 use Rattle.reasons.proofs.RegisterLaws.{MovedTo, moved_next, next_few}
 use Rattle.reasons.proofs.nodes.earlier_after.Goals as goal
 
-pub loop-k-init : goal.loop-k-init
-loop-k-init c = (c.requires, search rules, refl, λ j l. absurd (omega arith))
-
 pub offset_bounds-registers-next_of : goal.offset_bounds-registers-next_of
-offset_bounds-registers-next_of c = let rule = c.args.rule.now in let few = few_held rule c.loop-k.invariant.0 in let next = next_few (table_in rule) (rule_out form_in rule c.loop-k.invariant.0).ordered c.loop-k.k in let e = c.next_of.ensures in omega arith
+offset_bounds-registers-next_of c = let rule = c.args.rule.now in let few = few_held rule c.requires in let next = next_few (table_in rule) (rule_out form_in rule c.requires).ordered c.loop-k.k in let e = c.next_of.ensures in omega arith
 
 pub bounds-registers-next_of : goal.bounds-registers-next_of
-bounds-registers-next_of c = let rule = c.args.rule.now in let few = few_held rule c.loop-k.invariant.0 in let next = next_few (table_in rule) (rule_out form_in rule c.loop-k.invariant.0).ordered c.loop-k.k in let e = c.next_of.ensures in omega arith
+bounds-registers-next_of c = let rule = c.args.rule.now in let few = few_held rule c.requires in let next = next_few (table_in rule) (rule_out form_in rule c.requires).ordered c.loop-k.k in let e = c.next_of.ensures in omega arith
 
 pub bounds-earlier-k : goal.bounds-earlier-k
-bounds-earlier-k c = let few = few_held c.args.rule.now c.loop-k.invariant.0 in omega arith
+bounds-earlier-k c = let few = few_held c.args.rule.now c.requires in omega arith
 
 pub loop-k-preserved : goal.loop-k-preserved
 loop-k-preserved c = let a = c.args in
     let rule = a.rule.now in
-    let few = few_held rule c.loop-k.invariant.0 in
+    let few = few_held rule c.requires in
     let inside : c.loop-k.k < length c.loop-k.earlier = omega arith in
     let same = ap (λ j. get_or a.registers j 0) c.next_of.ensures in (
-      c.loop-k.invariant.0,
-      search rules,
-      length-set c.loop-k.earlier c.loop-k.k _ ∙ c.loop-k.invariant.2,
+      length-set c.loop-k.earlier c.loop-k.k _ ∙ c.loop-k.invariant.0,
       rw add-one (subst (λ w. MovedTo (table_in rule) a.registers (set c.loop-k.earlier c.loop-k.k w) (suc c.loop-k.k)) (sym same)
-          (moved_next (table_in rule) a.registers c.loop-k.earlier c.loop-k.k inside c.loop-k.invariant.3)),
+          (moved_next (table_in rule) a.registers c.loop-k.earlier c.loop-k.k inside c.loop-k.invariant.1)),
     )
-
-pub returns : goal.returns
-returns c = λ k h. c.loop-k.invariant.3 k (omega arith)

@@ -1,13 +1,9 @@
--- `reasons::nodes::earlier_after` meets its contract (`RegisterLaws`); the sets of the nodes below k are as the definition has them. The measure is what is left to go through. Assumes nothing.
-use Prim.Native.Nat.{◌-◌, ◌≤◌}
+-- `reasons::nodes::earlier_after` meets its contract (`RegisterLaws`); the sets of the nodes below k are as the definition has them. Assumes nothing.
 use mathlib.Core.Path.{◌≡◌}
 use lib.ListN.{length}
-use Rattle.rule.specs.Nodes.{table_in, RulePasses}
+use Rattle.rule.specs.Nodes.{table_in}
 use Rattle.reasons.proofs.RegisterLaws.{MovedTo}
 use Rattle.reasons.proofs.nodes.earlier_after.Given as goal
 
 abbrev pub invariant-loop-k : goal.invariant-loop-k
-invariant-loop-k l = RulePasses l.rule × (l.k ≤ length l.rule) × (length l.earlier ≡ 64) × MovedTo (table_in l.rule) l.registers l.earlier l.k
-
-abbrev pub decreases-loop-k : goal.decreases-loop-k
-decreases-loop-k l = length l.rule - l.k
+invariant-loop-k l = (length l.earlier ≡ 64) × MovedTo (table_in l.rule) l.registers l.earlier l.k

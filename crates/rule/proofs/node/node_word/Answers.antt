@@ -1,39 +1,8 @@
 -- `rule::node::node_word` meets its contract: kind by kind. Assumes nothing.
-use mathlib.Core.Path.{sym, ap, ◌∙◌, subst}
-use native.Mathlib.Omega.{arith}
+use mathlib.Core.Path.{sym, ap, ◌∙◌}
 use Rattle.spec.specs.Rule.{fields_of_node}
-use Rattle.rule.specs.Nodes.{word_out, node_read, NodeSmall}
+use Rattle.rule.specs.Nodes.{word_out, node_read}
 use Rattle.rule.proofs.node.node_word.Goals as goal
-
-pub fields_word-requires : goal.fields_word-requires
-fields_word-requires c =
-    let h = subst NodeSmall (ap node_read c.in-Equal.is) c.requires in
-    (omega arith, h.0, h.1, omega arith, omega arith)
-
-pub fields_word-requires-in-Below : goal.fields_word-requires-in-Below
-fields_word-requires-in-Below c =
-    let h = subst NodeSmall (ap node_read c.in-Below.is) c.requires in
-    (omega arith, h.0, h.1, omega arith, omega arith)
-
-pub fields_word-requires-in-Implies : goal.fields_word-requires-in-Implies
-fields_word-requires-in-Implies c =
-    let h = subst NodeSmall (ap node_read c.in-Implies.is) c.requires in
-    (omega arith, omega arith, omega arith, h.0, h.1)
-
-pub fields_word-requires-in-Since : goal.fields_word-requires-in-Since
-fields_word-requires-in-Since c =
-    let h = subst NodeSmall (ap node_read c.in-Since.is) c.requires in
-    (omega arith, omega arith, omega arith, h.0, h.1)
-
-pub fields_word-requires-in-WeakPrevious : goal.fields_word-requires-in-WeakPrevious
-fields_word-requires-in-WeakPrevious c =
-    let h = subst NodeSmall (ap node_read c.in-WeakPrevious.is) c.requires in
-    (omega arith, omega arith, omega arith, h, omega arith)
-
-pub fields_word-requires-in-EqualRegisters : goal.fields_word-requires-in-EqualRegisters
-fields_word-requires-in-EqualRegisters c =
-    let h = subst NodeSmall (ap node_read c.in-EqualRegisters.is) c.requires in
-    (omega arith, h.0, h.1, omega arith, omega arith)
 
 pub returns-in-False : goal.returns-in-False
 unfolding fields_of_node

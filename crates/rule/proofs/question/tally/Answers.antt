@@ -1,24 +1,25 @@
 -- `rule::question::tally` meets its contract. The loop keeps: with the nodes from k on, the tallies are those of the table (`TallyLaws`).
 -- Assumes nothing.
 use mathlib.Core.Path.{ap, ◌∙◌}
-use Rattle.rule.specs.Nodes.{node_by}
 use native.Mathlib.Omega.{arith}
-use borrow.Author.Rules.{rules}
 use Rattle.spec.specs.Rule.{operands}
 use Rattle.sets.proofs.SetLaws.{empty_is}
 use Rattle.rule.specs.Tally.{tallies_of, mention_all}
+use Rattle.rule.proofs.EachLaws.{length_each, node_each}
 use Rattle.rule.proofs.TallyLaws.{tally_start, tally_next, tally_end}
 use Rattle.rule.proofs.question.tally.Goals as goal
 
-pub loop-k-init : goal.loop-k-init
-loop-k-init c = let n = c.args.narrow.now in let w = c.args.wide.now in let b = c.args.is_wide in (search rules, tally_start b n w _ (λ i. record { once = empty_is i; twice = empty_is i }))
+pub loop-word-init : goal.loop-word-init
+loop-word-init g c = tally_start g.W.Word.IS_WIDE (g.W.Word.numbers c.args.rule.now) _ (λ i. record { once = empty_is i; twice = empty_is i })
 
-pub word_at-requires : goal.word_at-requires
-word_at-requires c = let e = c.count_words-count.ensures in omega arith
-
-pub loop-k-preserved : goal.loop-k-preserved
-loop-k-preserved c = let n = c.args.narrow.now in let w = c.args.wide.now in let b = c.args.is_wide in let e = c.count_words-count.ensures in let k = c.loop-k.k in let s = tallies_of c.loop-k.s in
-    (search rules, tally_next b n w k s _ (omega (arith, c.loop-k-test.true)) (c.mention_operands-s.ensures ∙ ap (λ x. mention_all s (operands x)) (c.read_either-x.ensures.node ∙ ap (node_by b) c.word_at.ensures)) c.loop-k.invariant.1)
+pub loop-word-preserved : goal.loop-word-preserved
+loop-word-preserved g c =
+    let there = length_each g.met.W.Word.each c.args.rule.now in
+    let s = tallies_of c.loop-word.s in
+    tally_next g.W.Word.IS_WIDE (g.W.Word.numbers c.args.rule.now) c.loop-word.word-index s _ (omega (arith, c.loop-word-test.true))
+    (c.mention_operands-s.ensures ∙ ap (λ x. mention_all s (operands x)) (c.read_either.ensures.node ∙ node_each g.met.W.Word.each c.args.rule.now g.W.Word.IS_WIDE c.loop-word.word-index _ _ c.loop-word-test.true c.word-item.is c.widen.ensures _ c.IS_WIDE.ensures)) c.loop-word.invariant
 
 pub returns : goal.returns
-returns c = let n = c.args.narrow.now in let w = c.args.wide.now in let b = c.args.is_wide in let e = c.count_words-count.ensures in let k = c.loop-k.k in tally_end b n w k _ (omega (arith, c.loop-k-test.false)) c.loop-k.invariant.1
+returns g c =
+    let there = length_each g.met.W.Word.each c.args.rule.now in
+    tally_end g.W.Word.IS_WIDE (g.W.Word.numbers c.args.rule.now) c.loop-word.word-index _ (omega (arith, c.loop-word-test.false)) c.loop-word.invariant

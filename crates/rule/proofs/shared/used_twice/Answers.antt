@@ -4,4 +4,4 @@ use Rattle.rule.proofs.TallyLaws.{used_twice}
 use Rattle.rule.proofs.shared.used_twice.Goals as goal
 
 pub returns : goal.returns
-returns c = let n = c.args.narrow.now in let w = c.args.wide.now in let b = c.args.is_wide in ap (λ s. s.twice) c.tally-s.ensures ∙ used_twice b n w
+returns g c = ap (λ s. s.twice) c.tally.ensures ∙ used_twice g.W.Word.IS_WIDE (g.W.Word.numbers c.args.rule.now)

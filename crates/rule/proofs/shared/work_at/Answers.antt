@@ -8,12 +8,13 @@ use Rattle.spec.proofs.MentionLaws.{past_has_work, work_is_lem}
 use Rattle.rule.proofs.shared.work_at.Goals as goal
 
 pub returns-then-past_at : goal.returns-then-past_at
-returns-then-past_at c = let n = c.args.narrow.now in let w = c.args.wide.now in let b = c.args.is_wide in
-    sym (past_has_work (table_by b n w) c.args.k (sym c.past_at.ensures ∙ c.if-past_at.true))
+returns-then-past_at g c =
+    sym (past_has_work (table_by g.W.Word.IS_WIDE (g.W.Word.numbers c.args.rule.now)) c.args.k (sym c.past_at.ensures ∙ c.if-past_at.true))
 
 pub returns-else-past_at : goal.returns-else-past_at
-returns-else-past_at c = let n = c.args.narrow.now in let w = c.args.wide.now in let b = c.args.is_wide in let k = c.args.k in
-    let t = table_by b n w in
+returns-else-past_at g c =
+    let k = c.args.k in
+    let t = table_by g.W.Word.IS_WIDE (g.W.Word.numbers c.args.rule.now) in
     let p : is_past (node_at t k) ≡ false = sym c.past_at.ensures ∙ c.if-past_at.false in
     c.has.ensures ∙ ap (λ s. s k) c.used_twice.ensures
     ∙ sym (work_is_lem t k ∙ ap (λ b. b || leb 2 (mentions t k)) p)

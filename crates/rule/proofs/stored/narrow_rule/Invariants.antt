@@ -1,12 +1,7 @@
 -- `rule::stored::narrow_rule` meets its contract: the loop keeps that the first words have moved (`CopyLaws`). Assumes nothing.
-use Prim.Native.Nat.{◌-◌}
-use lib.ListN.{length}
 use Rattle.moves.specs.Moves.{narrow_node}
 use Rattle.rule.proofs.CopyLaws.{Copied}
 use Rattle.rule.proofs.stored.narrow_rule.Given as goal
 
 abbrev pub invariant-loop-k : goal.invariant-loop-k
 invariant-loop-k l = Copied narrow_node l.rule l.initial.out l.k l.out
-
-abbrev pub decreases-loop-k : goal.decreases-loop-k
-decreases-loop-k l = length l.rule - l.k

@@ -4,10 +4,10 @@ use Rattle.stations.proofs.running.start.Goals as goal
 
 pub returns : goal.returns
 unfolding started
-returns c =
-    λ scripts inputs lent i. record {
-      machines = four (c.fresh_either-first.ensures lent.first i) (c.fresh_either-second.ensures lent.second i)
-          (c.fresh_either-third.ensures lent.third i) (c.fresh_either-fourth.ensures lent.fourth i);
+returns g c =
+    λ lent i. record {
+      machines = four (c.fresh.ensures lent.first i) (c.fresh-2.ensures lent.second i)
+          (c.fresh-3.ensures lent.third i) (c.fresh-4.ensures lent.fourth i);
       left = c.args.allowance;
       passes = 0;
       turns = 0;

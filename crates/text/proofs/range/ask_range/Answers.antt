@@ -1,14 +1,8 @@
 -- `text::range::ask_range` meets its contract: the places passed start no number out of range (`InRangeLaws.Ranging`). What is left of the
 -- text falls. Assumes nothing.
 use mathlib.Core.Path.{sym, ◌∙◌}
-use Rattle.text.proofs.InRangeLaws.{ranging_start, ranging_next, ranging_stop, ranging_end}
+use Rattle.text.proofs.InRangeLaws.{ranging_next, ranging_stop, ranging_end}
 use Rattle.text.proofs.range.ask_range.Goals as goal
-
-pub loop-i-init : goal.loop-i-init
-loop-i-init c = ranging_start c.args.text.now
-
-pub in_range-requires : goal.in_range-requires
-in_range-requires c = (c.loop-i-test.true, c.loop-i.invariant.last)
 
 pub returns-then-not-in_range : goal.returns-then-not-in_range
 returns-then-not-in_range c =

@@ -38,7 +38,7 @@ returns-in-Open c =
 
 pub returns-in-Close : goal.returns-in-Close
 returns-in-Close c =
-    c.wanting-in-Close.ensures ∙ ap (λ n. between false (at operator n)) c.minus.ensures ∙ ap (scan_after c.args.s.want
+    c.wanting-in-Close.ensures ∙ ap (λ n. between false (at operator n)) c.saturating_sub.ensures ∙ ap (scan_after c.args.s.want
     c.args.s.depth) (sym c.in-Close.is)
 
 pub returns-in-Equal : goal.returns-in-Equal

@@ -14,19 +14,19 @@ after_token-s-requires c = omega (arith, c.loop-at.invariant.shallow, c.loop-at-
 
 pub loop-at-smaller : goal.loop-at-smaller
 loop-at-smaller c =
-    let o : Over c.args.text.now c.loop-at.at (scan_of c.loop-at.s) _ _ _ = subst (Reads c.args.text.now c.loop-at.at c.loop-at.s.want c.loop-at.s.depth c.loop-at.s.touching) c.in-Found.is c.read_token-read.ensures in
+    let o : Over c.args.text.now c.loop-at.at (scan_of c.loop-at.s) _ _ _ = subst (Reads c.args.text.now c.loop-at.at c.loop-at.s.want c.loop-at.s.depth c.loop-at.s.touching) c.in-Ok.is c.read_token-read.ensures in
     omega (arith, o.further, o.inside)
 
 pub loop-at-preserved : goal.loop-at-preserved
 loop-at-preserved c =
     turning_next _ _ _ c.loop-at.invariant c.after_token-s.result _ _ (subst (Reads
     c.args.text.now c.loop-at.at c.loop-at.s.want c.loop-at.s.depth c.loop-at.s.touching)
-    c.in-Found.is c.read_token-read.ensures) c.after_token-s.ensures
+    c.in-Ok.is c.read_token-read.ensures) c.after_token-s.ensures
 
-pub returns-in-Stuck : goal.returns-in-Stuck
-returns-in-Stuck c =
+pub returns-in-Err : goal.returns-in-Err
+returns-in-Err c =
     turning_stuck _ _ _ c.loop-at.invariant _ (subst (Reads c.args.text.now c.loop-at.at
-    c.loop-at.s.want c.loop-at.s.depth c.loop-at.s.touching) c.in-Stuck.is c.read_token-read.ensures)
+    c.loop-at.s.want c.loop-at.s.depth c.loop-at.s.touching) c.in-Err.is c.read_token-read.ensures)
 
 pub returns-then-may_end : goal.returns-then-may_end
 returns-then-may_end c = turning_ends _ _ _ c.loop-at.invariant c.loop-at-test.false (sym c.may_end.ensures ∙ c.if-may_end.true)

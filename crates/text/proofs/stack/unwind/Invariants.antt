@@ -3,8 +3,8 @@ use Rattle.grammar.specs.Reading.{rank}
 use Rattle.text.proofs.UnwindLaws.{Unwinding}
 use Rattle.text.proofs.stack.unwind.Given as goal
 
-abbrev pub invariant-loop-base : goal.invariant-loop-base
-invariant-loop-base l = Unwinding l.stack l.top l.initial.table l.count (rank l.depth l.level) l.t l.table l.n
+abbrev pub invariant-loop-t : goal.invariant-loop-t
+invariant-loop-t l = Unwinding l.stack l.top l.initial.table l.count (rank l.depth l.level) l.t l.table l.n
 
-abbrev pub decreases-loop-base : goal.decreases-loop-base
-decreases-loop-base l = l.t
+abbrev pub decreases-loop-t : goal.decreases-loop-t
+decreases-loop-t l = l.t

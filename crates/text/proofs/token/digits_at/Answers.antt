@@ -1,10 +1,9 @@
--- `text::token::digits_at` meets its contract: the digits passed make the value (`DigitLaws.Passed`). What is left of the text falls.
--- Assumes nothing.
+-- `text::token::digits_at` meets its contract: the digits passed make the value (`DigitLaws.Passed`). Assumes nothing.
 use mathlib.Core.Path.{sym, subst, ◌∙◌}
 use Prim.Native.Nat.{◌+◌}
 use native.Mathlib.Omega.{arith}
 use lib.ListN.{get_or}
-use Rattle.text.proofs.DigitLaws.{digit_low, digit_high, cap_small, Passed, passed_start, passed_next, passed_stop, passed_end}
+use Rattle.text.proofs.DigitLaws.{digit_high, cap_small, Passed, passed_start, passed_next, passed_stop, passed_end}
 use Rattle.text.proofs.token.digits_at.Goals as goal
 
 pub loop-i-init : goal.loop-i-init
@@ -17,18 +16,6 @@ returns-then-not-is_digit c =
 
 pub overflow_mul-value : goal.overflow_mul-value
 overflow_mul-value c = omega (arith, cap_small c.loop-i.invariant.exact, c.loop-i.invariant.value_is_lem)
-
-pub overflow_cast-b : goal.overflow_cast-b
-overflow_cast-b c =
-    let d = sym c.is_digit.ensures ∙ c.if-not-is_digit.false in
-    omega (
-      arith,
-      digit_high (get_or c.args.text.now
-          c.loop-i.i 0) d,
-    )
-
-pub overflow_sub-b : goal.overflow_sub-b
-overflow_sub-b c = let d = sym c.is_digit.ensures ∙ c.if-not-is_digit.false in digit_low _ d
 
 pub overflow_add-value : goal.overflow_add-value
 overflow_add-value c =

@@ -1,30 +1,15 @@
--- `text::token::matching` meets its contract: the letters passed stand in the text (`LetterLaws.Agreed`). What is left of the letters
--- falls. Assumes nothing.
-use native.Mathlib.Omega.{arith}
-use Rattle.text.proofs.LetterLaws.{agreed_beyond, agreed_start, agreed_next, agreed_other, agreed_short, agreed_end}
+-- `text::token::matching` meets its contract: the pairs that are the same are the letters that stand there (`LetterLaws`). Assumes nothing.
+use Rattle.std.proofs.Common.{◌<◌, ◌≤◌, ◌-◌, ◌∙◌, ap, rules, arith, drop, length, length-drop}
+use Rattle.std.proofs.lemmas.List.{take_all}
+use Rattle.grammar.specs.Bytes.{agreeing}
+use Rattle.text.proofs.LetterLaws.{agreeing_none, agreeing_pairs}
 use Rattle.text.proofs.token.matching.Goals as goal
 
-pub returns-then-text-at : goal.returns-then-text-at
-returns-then-text-at c = agreed_beyond c.args.letters.now c.args.text.now c.args.at c.if-text-at.true
-
-pub loop-n-init : goal.loop-n-init
-loop-n-init c = agreed_start c.args.letters.now c.args.text.now c.args.at c.if-text-at.false
-
-pub returns-then-at-n : goal.returns-then-at-n
-returns-then-at-n c = agreed_short _ _ _ _ c.loop-n.invariant c.loop-n-test.true c.if-at-n.true
-
-pub bounds-text-at : goal.bounds-text-at
-bounds-text-at c = omega (arith, c.if-at-n.false, c.loop-n.invariant.in_text)
-
-pub returns-then-text-at-2 : goal.returns-then-text-at-2
-returns-then-text-at-2 c =
-    agreed_other _ _ _ _ c.loop-n.invariant c.loop-n-test.true (omega
-    (arith, c.if-at-n.false, c.loop-n.invariant.in_text)) c.if-text-at-2.true
-
-pub loop-n-preserved : goal.loop-n-preserved
-loop-n-preserved c =
-    agreed_next _ _ _ _ c.loop-n.invariant c.loop-n-test.true (omega
-    (arith, c.if-at-n.false, c.loop-n.invariant.in_text)) c.if-text-at-2.false
+pub returns-in_default : goal.returns-in_default
+returns-in_default c = let h : length c.args.text.now < c.args.at = search rules in agreeing_none _ _ _ h
 
 pub returns : goal.returns
-returns c = agreed_end _ _ _ _ c.loop-n.invariant c.loop-n-test.false
+returns c =
+    let l = c.in-Some.ensures.lookup.0 in
+    let size : length (drop c.args.at c.args.text.now) ≤ length c.args.text.now - c.args.at = omega (arith, length-drop c.args.at c.args.text.now) in
+    c.same_first.ensures ∙ agreeing_pairs _ _ ∙ ap (agreeing c.args.letters.now) (l.2 ∙ take_all _ _ size)

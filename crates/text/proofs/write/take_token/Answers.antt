@@ -7,12 +7,12 @@ put_constant-requires c = constant_room _ _ _ 0 _ (ready_as c.in-Constant.is c.r
 
 pub wait-h-requires : goal.wait-h-requires
 wait-h-requires c =
-    prefix_room _ _ _ 0 _ c.prefix_number.result c.prefix_number.ensures (ready_as c.in-Prefix.is
+    prefix_room _ _ _ 0 _ c.prefix_word.result c.prefix_word.ensures (ready_as c.in-Prefix.is
     c.requires)
 
 pub join-h-requires : goal.join-h-requires
 join-h-requires c =
-    operator_room _ _ _ 0 _ c.operator_number.result c.operator_level.result c.operator_number.ensures
+    operator_room _ _ _ 0 _ c.operator_word.result c.operator_level.result c.operator_word.ensures
     c.operator_level.ensures (ready_as c.in-Operator.is
     c.requires)
 
@@ -31,14 +31,14 @@ returns-in-Constant c =
 pub returns-in-Prefix : goal.returns-in-Prefix
 returns-in-Prefix c =
     let told = c.in-Prefix.is in
-    took told (with_progress c.at_height-in-Prefix.ensures (taken_prefix _ _ _ _ _ c.prefix_number.result c.prefix_number.ensures (ready_as told
+    took told (with_progress c.at_height-in-Prefix.ensures (taken_prefix _ _ _ _ _ c.prefix_word.result c.prefix_word.ensures (ready_as told
     c.requires) _ _ _ _ c.wait-h.ensures))
 
 pub returns-in-Operator : goal.returns-in-Operator
 returns-in-Operator c =
     let told = c.in-Operator.is in
-    took told (with_progress c.at_height-in-Operator.ensures (taken_operator _ _ _ _ _ c.operator_number.result c.operator_level.result
-    c.operator_number.ensures c.operator_level.ensures (ready_as told
+    took told (with_progress c.at_height-in-Operator.ensures (taken_operator _ _ _ _ _ c.operator_word.result c.operator_level.result
+    c.operator_word.ensures c.operator_level.ensures (ready_as told
     c.requires) _ _ _ _ c.join-h.ensures))
 
 pub returns-in-Register : goal.returns-in-Register

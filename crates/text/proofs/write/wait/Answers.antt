@@ -13,5 +13,5 @@ push-t-requires c =
 pub returns : goal.returns
 returns c =
     waits_builds c.args.stack.now c.args.top c.args.table.now c.args.count c.args.word c.requires.0 c.requires.1 c.args.depth
-    c.minus.result c.push-t.new.stack c.push-t.result c.put_begin-n.new.table c.put_begin-n.result c.put_begin-n.ensures
-    c.minus.ensures c.push-t.ensures.1 c.push-t.ensures.2
+    c.saturating_sub-left.result c.push-t.new.stack c.push-t.result c.put_begin-n.new.table c.put_begin-n.result c.put_begin-n.ensures
+    c.saturating_sub-left.ensures c.push-t.ensures.1 c.push-t.ensures.2

@@ -3,7 +3,6 @@
 use mathlib.Core.Path.{sym, subst}
 use Prim.Native.Nat.{◌+◌}
 use native.Mathlib.Omega.{arith}
-use Rattle.text.specs.Progress.{TableOf}
 use Rattle.text.specs.Places.{scan_of, Over, Reads}
 use Rattle.text.proofs.WritingLaws.{cost_small, Writing, writing_start, writing_stuck, writing_many, writing_ready, writing_next, writing_end}
 use Rattle.text.proofs.write.write_nodes.Goals as goal
@@ -24,20 +23,20 @@ overflow_add-total c =
       c.loop-at.invariant.few,
       c.nodes_for-total.ensures,
       cost_small
-          c.in-Found.token,
+          c.in-Ok.lexeme.token,
     )
 
 pub returns-then-allowed-total : goal.returns-then-allowed-total
 returns-then-allowed-total c =
-    subst (λ n. TableOf c.args.text.now c.args.allowed c.loop-at.table (c.loop-at.total + n)) (sym c.nodes_for-total.ensures) (writing_many _ _ _ _ _ _ _ _ c.loop-at.invariant _ _
-    (subst (Reads c.args.text.now c.loop-at.at c.loop-at.s.want c.loop-at.s.depth c.loop-at.s.touching) c.in-Found.is
-    c.read_token-read.ensures) _ (omega (arith, c.if-allowed-total.true, c.nodes_for-total.ensures)))
+    writing_many _ _ _ _ _ _ _ _ c.loop-at.invariant _ _
+    (subst (Reads c.args.text.now c.loop-at.at c.loop-at.s.want c.loop-at.s.depth c.loop-at.s.touching) c.in-Ok.is
+    c.read_token-read.ensures) c.loop-at.table (omega (arith, c.if-allowed-total.true, c.nodes_for-total.ensures))
 
 pub take_token-progress-requires : goal.take_token-progress-requires
 take_token-progress-requires c =
     writing_ready _ _ _ _ _ _ _ _ c.loop-at.invariant _ _ (subst (Reads
     c.args.text.now c.loop-at.at c.loop-at.s.want
-    c.loop-at.s.depth c.loop-at.s.touching) c.in-Found.is
+    c.loop-at.s.depth c.loop-at.s.touching) c.in-Ok.is
     c.read_token-read.ensures) (omega
     (arith, c.if-allowed-total.false, c.nodes_for-total.ensures))
 
@@ -48,14 +47,14 @@ after_token-s-requires c =
 
 pub loop-at-smaller : goal.loop-at-smaller
 loop-at-smaller c =
-    let o : Over c.args.text.now c.loop-at.at (scan_of c.loop-at.s) _ _ _ = subst (Reads c.args.text.now c.loop-at.at c.loop-at.s.want c.loop-at.s.depth c.loop-at.s.touching) c.in-Found.is c.read_token-read.ensures in
+    let o : Over c.args.text.now c.loop-at.at (scan_of c.loop-at.s) _ _ _ = subst (Reads c.args.text.now c.loop-at.at c.loop-at.s.want c.loop-at.s.depth c.loop-at.s.touching) c.in-Ok.is c.read_token-read.ensures in
     omega (arith, o.further, o.inside)
 
 pub loop-at-preserved : goal.loop-at-preserved
 loop-at-preserved c =
     subst (λ n. Writing c.args.text.now c.args.allowed c.take_token-progress.new.stack c.take_token-progress.new.table
-    c.take_token-progress.result c.after_token-s.result (c.loop-at.total + n) c.in-Found.next) (sym c.nodes_for-total.ensures)
-    (writing_next _ _ _ _ _ _ _ _ c.loop-at.invariant _ _ (subst (Reads c.args.text.now c.loop-at.at c.loop-at.s.want c.loop-at.s.depth c.loop-at.s.touching) c.in-Found.is
+    c.take_token-progress.result c.after_token-s.result (c.loop-at.total + n) c.in-Ok.lexeme.next) (sym c.nodes_for-total.ensures)
+    (writing_next _ _ _ _ _ _ _ _ c.loop-at.invariant _ _ (subst (Reads c.args.text.now c.loop-at.at c.loop-at.s.want c.loop-at.s.depth c.loop-at.s.touching) c.in-Ok.is
     c.read_token-read.ensures) (omega
     (arith, c.if-allowed-total.false, c.nodes_for-total.ensures)) _ _ c.take_token-progress.result c.after_token-s.result
     c.take_token-progress.ensures c.after_token-s.ensures)
