@@ -101,7 +101,7 @@ pub fn script_up(rule: &[u32], script: &[u32], out: &mut [u64]) -> Result<usize,
     ensures output { out.new ≡ script_up_output rule.now script.now out.old }
 {
     check_rule(rule)?;
-    check_move(rule, script)?;
+    check_move::<u32>(rule, script)?;
     move_script(script, out)
 }
 
@@ -111,6 +111,6 @@ pub fn script_back(rule: &[u64], script: &[u64], out: &mut [u32]) -> Result<usiz
     ensures output { out.new ≡ script_back_output rule.now script.now out.old }
 {
     check_back(rule)?;
-    check_move(rule, script)?;
+    check_move::<u64>(rule, script)?;
     move_script(script, out)
 }

@@ -40,6 +40,14 @@ fn put_woven<W: Word>(
     }
 }
 
+// How many words n lines take in an output of this form: in both it is eight to a line.
+fn words_of<W: Word>(n: usize) -> usize
+    requires { n ≤ 1024 }
+    ensures { result ≡ 8 * n }
+{
+    8 * n
+}
+
 // Every bare line, each into the part of the output after the lines already written.
 fn put_lines<W: Word>(rule: &Measured, bare: &[u32], starts: &[u16; 64], size: usize, out: &mut [W])
     requires { Weaving rule.now.nodes.now bare.now rule.now.sizes.now starts.now size rule.now.shared rule.now.past × Space 0 (woven_count (table_in rule.now.nodes.now) (bare_code bare.now)) (W.numbers out.old) }
@@ -47,7 +55,7 @@ fn put_lines<W: Word>(rule: &Measured, bare: &[u32], starts: &[u16; 64], size: u
 {
     let mut n = 0;
     for l in 0..bare.len() {
-        let start = 8 * n;
+        let start = words_of::<W>(n);
         n += put_woven(rule, bare, starts, size, l, n, &mut out[start..]);
     }
 }
