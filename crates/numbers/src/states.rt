@@ -8,12 +8,14 @@ use crate::notes::note_registers;
 use machine::Machine;
 use machine::ready::Readiness;
 
-// Whether each of the 16 registers has at most 16 bits.
+// Whether each of the 16 registers has at most 16 bits. A fold and not `all`: every step asks it, and it has no way out.
 fn registers_fit(state: &[u64]) -> bool
     requires { 25 ≤ length state.now }
     ensures { result ≡ registers_fit state.now }
 {
-    state[5..21].iter().all(|word| *word <= 65535)
+    state[5..21]
+        .iter()
+        .fold(true, |fit, word| fit & (*word <= 65535))
 }
 
 // Whether they do, and ready is 0 or 1.
