@@ -1,22 +1,78 @@
 // Answers as numbers in lent words. Each kind has a function of its own: what a yes writes differs at each, and a refusal's words are one function's.
-ghost use Rattle.std.specs.Prelude.{◌≡◌, ◌∷◌, [], ◌++◌, ◌+◌, ◌-◌, ◌≤◌, length, take, drop, replicate};
-ghost use Rattle.spec.specs.Questions.{passed};
+ghost use Rattle.std.specs.Prelude.{◌≡◌, ◌∷◌, [], ◌++◌, ℕ, ◌+◌, ◌-◌, ◌≤◌, length, take, drop, replicate, Result};
+ghost use Rattle.spec.specs.Questions.{Answer, passed};
 ghost use Rattle.rule.specs.Answers.{number_of as question_number, answer_of, counted_of, verdict_of};
 ghost use Rattle.machine.specs.Runs.{stop_of, report_in};
 ghost use Rattle.numbers.specs.Numbers.{number_of, checked_words, count_words, verdict_words, stop_number, report_words};
+ghost use Rattle.numbers.specs.Refused.{Said, counted_by, said_of_question, said_of_number};
 
 use machine::answer::{RunAnswer, Stop};
 use rule::answer::{Refusal, Verdict};
 
+// A refusal as it is noted: by the number of its question, and its place.
+pub trait Numbered: Copy {
+    ghost number: { Self → ℕ };
+
+    ghost place: { Self → ℕ };
+
+    // A count, or such a refusal, as the specification's answer.
+    ghost counted: { Result ℕ Self → Answer ℕ };
+
+    fn question_number(self) -> u32
+        ensures { result ≡ number self };
+
+    fn question_place(self) -> usize
+        ensures { result ≡ place self };
+
+    ghost said: { Said number place counted };
+}
+
+impl Numbered for Refusal {
+    ghost number = { λ r. question_number r.question };
+
+    ghost place = { λ r. r.place };
+
+    ghost counted = { counted_of };
+
+    fn question_number(self) -> u32 {
+        u32::from(self.question)
+    }
+
+    fn question_place(self) -> usize {
+        self.place
+    }
+
+    ghost said = { said_of_question };
+}
+
+// A number and a place: any number, whether a question has it or not.
+impl Numbered for (u32, usize) {
+    ghost number = { λ r. r.0 };
+
+    ghost place = { λ r. r.1 };
+
+    ghost counted = { counted_by };
+
+    fn question_number(self) -> u32 {
+        self.0
+    }
+
+    fn question_place(self) -> usize {
+        self.1
+    }
+
+    ghost said = { said_of_number };
+}
+
 // A refusal's words are n: its place, and zeros. The question's number is handed back.
-pub(crate) fn note_refusal(refusal: Refusal, n: usize, numbers: &mut [u64]) -> u32
+pub(crate) fn note_refusal<E: Numbered>(refusal: E, n: usize, numbers: &mut [u64]) -> u32
     requires { (1 ≤ n) × (n ≤ length numbers.old) }
-    ensures result { result ≡ question_number refusal.question }
-    ensures words { numbers.new ≡ refusal.place ∷ replicate (n - 1) 0 ++ drop n numbers.old }
+    ensures result { result ≡ E.number refusal }
+    ensures words { numbers.new ≡ E.place refusal ∷ replicate (n - 1) 0 ++ drop n numbers.old }
 {
     numbers[..n].fill(0);
-    numbers[0] = refusal.place as u64;
-    u32::from(refusal.question)
+    numbers[0] = refusal.question_place() as u64;
+    refusal.question_number()
 }
 
 // The number handed back; the place is written.
@@ -34,11 +90,11 @@ pub fn note_place(a: Result<(), Refusal>, numbers: &mut [u64]) -> u32
     }
 }
 
-// The number handed back; place and count are written.
-pub fn note_count(w: Result<usize, Refusal>, numbers: &mut [u64]) -> u32
+// The number handed back; place and count are written. A refusal of any number is noted.
+pub fn note_count<E: Numbered>(w: Result<usize, E>, numbers: &mut [u64]) -> u32
     requires { 2 ≤ length numbers.old }
-    ensures result { result ≡ number_of (counted_of w) }
-    ensures words { numbers.new ≡ count_words (counted_of w) ++ drop 2 numbers.old }
+    ensures result { result ≡ number_of (E.counted w) }
+    ensures words { numbers.new ≡ count_words (E.counted w) ++ drop 2 numbers.old }
 {
     match w {
         Ok(n) => {

@@ -2,7 +2,7 @@
 ghost use Rattle.std.specs.Prelude.{◌≡◌, ◌≤◌, ◌<◌, ◌/◌, length};
 ghost use Rattle.spec.specs.Script.{fields, fields_of, word_of};
 ghost use Rattle.moves.specs.Moves.{narrow_word};
-ghost use Rattle.script.specs.Lines.{number_of_opcode, fields_in, FieldsSmall, word_at};
+ghost use Rattle.script.specs.Lines.{number_of_opcode, ReadAs, fields_in, FieldsSmall, word_at};
 
 use rule::stored::{Word, word_at};
 
@@ -36,10 +36,12 @@ pub struct Instruction {
     pub target: usize,
 }
 
-// The opcode with this number; one from 15 on is that of no instruction.
+// The opcode with this number; one from 15 on is that of no instruction. So an instruction can be made of any number, and what is said of one
+// by its opcode is said of its number.
 pub fn opcode_of(number: u32) -> Opcode
     ensures known { number < 16 → number_of_opcode result ≡ number }
     ensures unknown { 15 ≤ number → result ≡ Opcode.Unknown }
+    ensures alike { ReadAs number (number_of_opcode result) }
 {
     match number {
         0 => Opcode::Halt,
