@@ -12,8 +12,8 @@ ghost use Rattle.std.specs.Prelude.{◌<◌, ◌≤◌, ◌+◌, IfOk, IfSome};
 
 use crate::finding::answer_finding;
 use crate::moving::{answer_back, answer_up};
-use crate::pairs::answer_both;
-use crate::runs::{answer_bare, answer_machine};
+use crate::pairs::{answer_long_pair, answer_pair};
+use crate::runs::{answer_bare, answer_long_bare, answer_machine};
 use crate::texts::request_text;
 use crate::weaving::answer_weaving;
 use input::read_full;
@@ -66,8 +66,46 @@ fn answer_script(rt: &impl Print, rule: &[u32], script: &[u32]) -> io::Result<()
     print_answer(rt, checker::check_script(rule, script))
 }
 
-// What the entry points answer on a rule of the old form and the `count` words from `at` on. A lent output has ones everywhere, which no
-// node and no line is.
+// Kinds 5 and 10, into an output of that many words. It has ones everywhere, which no node and no line is.
+fn answer_lent(
+    rt: &impl Print,
+    kind: u32,
+    rule: &[u32],
+    script: &[u32],
+    length: usize,
+) -> io::Result<()> {
+    if 16384 < length {
+        return Ok(());
+    }
+    let mut out = [4294967295u32; 16384];
+    if kind == 5 {
+        answer_weaving(rt, rule, script, &mut out[..length])
+    } else {
+        answer_finding(rt, rule, script, &mut out[..length])
+    }
+}
+
+// The same of the second form, kinds 15 and 20.
+fn answer_long_lent(
+    rt: &impl Print,
+    kind: u32,
+    rule: &[u64],
+    script: &[u32],
+    length: usize,
+) -> io::Result<()> {
+    if 16384 < length {
+        return Ok(());
+    }
+    let mut out = [18446744073709551615u64; 16384];
+    if kind == 15 {
+        answer_weaving(rt, rule, script, &mut out[..length])
+    } else {
+        answer_finding(rt, rule, script, &mut out[..length])
+    }
+}
+
+// What the entry points answer on a rule of the old form and the `count` words from `at` on. A buffer is filled only for the kinds that
+// use it.
 fn answer(
     rt: &impl Print,
     s: &[u8],
@@ -82,12 +120,10 @@ fn answer(
         return answer_history(rt, s, r, at, count);
     }
     let mut script = [0u32; 16384];
-    let mut out = [4294967295u32; 16384];
     if kind == 25 {
         let n = count / 2;
         load_words(s, at, n, &mut script);
-        load_words(s, at + n, n, &mut out);
-        return answer_both(rt, r, &mut script[..n], &out[..n]);
+        return answer_pair(rt, s, r, &mut script[..n], at + n);
     }
     load_words(s, at, count, &mut script);
     let w = &script[..count];
@@ -95,17 +131,12 @@ fn answer(
     let length = word_at(s, after) as usize;
     if kind == 2 {
         answer_script(rt, r, w)
-    } else if (kind == 5) & (length <= 16384) {
-        answer_weaving(rt, r, w, &mut out[..length])
-    } else if (kind == 10) & (length <= 16384) {
-        answer_finding(rt, r, w, &mut out[..length])
-    } else if (21 <= kind) & (length <= 16384) {
-        let mut wide = [18446744073709551615u64; 16384];
-        answer_up(rt, kind, r, w, &mut wide[..length])
-    } else if (kind == 5) | (kind == 10) | (21 <= kind) {
-        Ok(())
+    } else if (kind == 5) | (kind == 10) {
+        answer_lent(rt, kind, r, w, length)
+    } else if 21 <= kind {
+        answer_up(rt, kind, r, w, length)
     } else if kind == 6 {
-        answer_bare(rt, s, r, w, &mut out[..8192], after)
+        answer_bare(rt, s, r, w, after)
     } else {
         answer_machine(rt, s, kind, r, w, after)
     }
@@ -126,19 +157,14 @@ fn answer_short(
         return answer_history(rt, s, r, at, count);
     }
     let mut script = [0u32; 16384];
-    let mut out = [18446744073709551615u64; 16384];
     load_words(s, at, count, &mut script);
     let w = &script[..count];
     let after = at + count;
     let length = word_at(s, after) as usize;
-    if (kind == 15) & (length <= 16384) {
-        answer_weaving(rt, r, w, &mut out[..length])
-    } else if (kind == 20) & (length <= 16384) {
-        answer_finding(rt, r, w, &mut out[..length])
-    } else if (kind == 15) | (kind == 20) {
-        Ok(())
+    if (kind == 15) | (kind == 20) {
+        answer_long_lent(rt, kind, r, w, length)
     } else if kind == 16 {
-        answer_bare(rt, s, r, w, &mut out[..8192], after)
+        answer_long_bare(rt, s, r, w, after)
     } else {
         // Kinds 18 and 19 are none: the words are read as a script of the old form, with no rule's node.
         answer_machine(rt, s, kind, &[0u32], w, after)
@@ -159,10 +185,8 @@ fn answer_long(
     let mut script = [0u64; 16384];
     if kind == 26 {
         let n = count / 2;
-        let mut other = [0u64; 16384];
         load_words(s, at, n, &mut script);
-        load_words(s, at + 2 * n, n, &mut other);
-        return answer_both(rt, r, &mut script[..n], &other[..n]);
+        return answer_long_pair(rt, s, r, &mut script[..n], at + 2 * n);
     }
     load_words(s, at, count, &mut script);
     let w = &script[..count];
@@ -172,11 +196,7 @@ fn answer_long(
         say(rt, b"script ")?;
         print_answer(rt, checker::check_script(r, w))
     } else if 21 <= kind {
-        if 16384 < length {
-            return Ok(());
-        }
-        let mut out = [4294967295u32; 16384];
-        answer_back(rt, kind, r, w, &mut out[..length])
+        answer_back(rt, kind, r, w, length)
     } else {
         answer_machine(rt, s, kind, r, w, after)
     }

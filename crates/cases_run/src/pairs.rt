@@ -1,9 +1,10 @@
 // Requests of kinds 25 and 26: two annotated scripts, of the old form or the second, are checked and, where both are accepted, put together.
-ghost use Rattle.std.specs.Prelude.{◌≡◌, length};
+ghost use Rattle.std.specs.Prelude.{◌≡◌, ◌≤◌, length};
 ghost use Rattle.union.specs.Union.{union_word, union_words};
 
 use crate::digests::print_lent;
 use checker::check_script;
+use requests::loading::load_words;
 use requests::printing::{print_answer, say};
 use rule::stored::{Word, put_word, word_at};
 use std::io;
@@ -26,7 +27,7 @@ fn unite<W: Word>(script: &mut [W], other: &[W])
 }
 
 // What the checker says of each, and of their union, if both are accepted; then the union.
-pub(crate) fn answer_both<W: Word>(
+fn answer_both<W: Word>(
     rt: &impl Print,
     rule: &[W],
     script: &mut [W],
@@ -47,4 +48,36 @@ pub(crate) fn answer_both<W: Word>(
         print_lent(rt, script)?;
     }
     Ok(())
+}
+
+// The second script, as long as the first one, is the words from `at` on.
+pub(crate) fn answer_pair(
+    rt: &impl Print,
+    s: &[u8],
+    rule: &[u32],
+    script: &mut [u32],
+    at: usize,
+) -> io::Result<()>
+    requires { (at ≤ 100000) × (length script.old ≤ 16384) }
+{
+    let n = script.len();
+    let mut other = [0u32; 16384];
+    load_words(s, at, n, &mut other);
+    answer_both(rt, rule, script, &other[..n])
+}
+
+// The same of the second form.
+pub(crate) fn answer_long_pair(
+    rt: &impl Print,
+    s: &[u8],
+    rule: &[u64],
+    script: &mut [u64],
+    at: usize,
+) -> io::Result<()>
+    requires { (at ≤ 100000) × (length script.old ≤ 16384) }
+{
+    let n = script.len();
+    let mut other = [0u64; 16384];
+    load_words(s, at, n, &mut other);
+    answer_both(rt, rule, script, &other[..n])
 }

@@ -109,7 +109,7 @@ struct Lent {
 }
 
 // From word `at` on: input count, inputs, the budget or the number of steps as two words, the length of the lent history.
-fn lent_at(s: &[u8], at: usize, inputs: &mut [u16]) -> Option<Lent>
+fn lent_at(s: &[u8], at: usize) -> Option<Lent>
     requires { at ≤ 100000 }
     ensures { IfSome result (λ l. (l.inputs ≤ 16384) × (l.length ≤ 16384)) }
 {
@@ -122,7 +122,6 @@ fn lent_at(s: &[u8], at: usize, inputs: &mut [u16]) -> Option<Lent>
     if 16384 < length {
         return None;
     }
-    load_numbers(s, at + 1, count, inputs);
     Some(Lent {
         inputs: count,
         most: long(word_at(s, after), word_at(s, after + 1)),
@@ -141,13 +140,14 @@ pub(crate) fn answer_machine<W: Word>(
 ) -> io::Result<()>
     requires { at ≤ 100000 }
 {
-    let mut inputs = [0u16; 16384];
-    let Some(lent) = lent_at(s, at, &mut inputs) else {
+    let Some(lent) = lent_at(s, at) else {
         return Ok(());
     };
+    let mut inputs = [0u16; 16384];
+    load_numbers(s, at + 1, lent.inputs, &mut inputs);
+    let given = &inputs[..lent.inputs];
     let mut buffer = [60000u16; 16384];
     let history = &mut buffer[..lent.length];
-    let given = &inputs[..lent.inputs];
     if (kind == 3) | (kind == 13) {
         let a = machine::run(rule, script, given, lent.most, history);
         print_run(rt, a, true, history)
@@ -158,20 +158,19 @@ pub(crate) fn answer_machine<W: Word>(
 
 // Weaves a bare script, asks about what was woven, and runs it. The steps are not printed: the machine that the answers are compared with
 // has others.
-pub(crate) fn answer_bare<W: Word>(
+fn answer_woven<W: Word>(
     rt: &impl Print,
     s: &[u8],
     rule: &[W],
     bare: &[u32],
     out: &mut [W],
     at: usize,
+    lent: Lent,
 ) -> io::Result<()>
-    requires { at ≤ 100000 }
+    requires { (at ≤ 100000) × (lent.inputs ≤ 16384) × (lent.length ≤ 16384) }
 {
     let mut inputs = [0u16; 16384];
-    let Some(lent) = lent_at(s, at, &mut inputs) else {
-        return Ok(());
-    };
+    load_numbers(s, at + 1, lent.inputs, &mut inputs);
     let mut buffer = [60000u16; 16384];
     let history = &mut buffer[..lent.length];
     match weaver::weave(rule, bare, out) {
@@ -186,4 +185,38 @@ pub(crate) fn answer_bare<W: Word>(
             Ok(())
         }
     }
+}
+
+// Kind 6. The output of the weaver is for 1,024 lines.
+pub(crate) fn answer_bare(
+    rt: &impl Print,
+    s: &[u8],
+    rule: &[u32],
+    bare: &[u32],
+    at: usize,
+) -> io::Result<()>
+    requires { at ≤ 100000 }
+{
+    let Some(lent) = lent_at(s, at) else {
+        return Ok(());
+    };
+    let mut out = [0u32; 8192];
+    answer_woven(rt, s, rule, bare, &mut out, at, lent)
+}
+
+// Kind 16.
+pub(crate) fn answer_long_bare(
+    rt: &impl Print,
+    s: &[u8],
+    rule: &[u64],
+    bare: &[u32],
+    at: usize,
+) -> io::Result<()>
+    requires { at ≤ 100000 }
+{
+    let Some(lent) = lent_at(s, at) else {
+        return Ok(());
+    };
+    let mut out = [0u64; 8192];
+    answer_woven(rt, s, rule, bare, &mut out, at, lent)
 }
