@@ -1,5 +1,5 @@
 -- The laws of `specs/File.antt`.
---     whole_no, whole_yes, whole_out            whether the limits are all there
+--     whole_no, whole_is, whole_out            whether the limits are all there
 --     length_limits, limits_start, limits_next  numbers written one after another
 -- Assumes nothing.
 use mathlib.Core.Path.{◌≡◌, refl, ap, subst, ◌∙◌}

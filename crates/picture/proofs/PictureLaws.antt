@@ -1,11 +1,12 @@
 -- The laws of `specs/Picture.antt`.
 --     limits_no, limits_yes                   the text of a judging, refused and not
 --     sets_asked, count_is                    what the registers are asked by, and that the lines have space
+--     text_widen                              a rule in its table of the second form
 --     loaded_text                             the lows and the highs as they were loaded
 --     file_no, file_few, file_judged          the text of a file
 --     picture_is                              and of the rule as it was loaded
 -- Assumes nothing.
-use mathlib.Core.Path.{◌≡◌, sym, ap, ap₂, ◌∙◌}
+use mathlib.Core.Path.{◌≡◌, refl, sym, ap, ap₂, ◌∙◌}
 use mathlib.Core.Bool.{true, false}
 use mathlib.Core.List.{List, ◌++◌}
 use Prim.Native.Nat.{ℕ, ◌+◌, ◌*◌, ◌≤◌, ◌<◌}
@@ -14,15 +15,18 @@ use lib.ListN.{length, get_or, take, drop, replicate, get_or-append, length-repl
 use lib.Seq.{length-take-le, get_or-take}
 use borrow.Author.Tests.{le-leb}
 use Rattle.spec.specs.Ascii.{ascii}
-use Rattle.spec.specs.Questions.{Answer, passed, refused, ◌then◌}
-use Rattle.spec.specs.Rule.{Form, form32, check_rule}
-use Rattle.spec.specs.Judging.{state_count}
+use Rattle.spec.specs.Questions.{Answer, passed, refused, Checked, ◌then◌}
+use Rattle.spec.specs.Rule.{Form, form32, form64, Table, table_of, rule_of, check_rule}
+use Rattle.spec.specs.Judging.{state_count, states_of, question14, question15}
 use Rattle.spec.proofs.QuestionLaws.{both_passed, once_in}
 use Rattle.sets.specs.Sets.{set_of}
+use Rattle.moves.specs.Moves.{widen_rule}
+use Rattle.moves.proofs.NodeMoveLaws.{table_widen, check_widen}
 use Rattle.print.specs.Decimal.{newline, number, refused_text}
 use Rattle.print.specs.Written.{Added}
 use Rattle.print.proofs.AddedLaws.{each_same, loaded, front_is}
-use Rattle.intervals.specs.Limits.{Truth₃, rule_truth, question13, check_limits, limiting, byte_of, bytes_for, answers_for, limits_output}
+use Rattle.intervals.specs.Limits.{Truth₃, truth_at, rule_truth, question22, question13, question23, check_limits, limiting, byte_of, bytes_for, answers_for, limits_output}
+use Rattle.intervals.specs.Reasons.{reason_at, depends_on}
 use Rattle.intervals.proofs.LimitsLaws.{length_bytes, byte_at}
 use Rattle.reasons.specs.Written.{RegistersPut}
 use Rattle.words.specs.Words.{word_at}
@@ -81,6 +85,29 @@ module _ (form : Form) (rule lows highs : List ℕ) where
           ∙ ap (λ l. ascii "indices " ++ number n newline ++ l)
           (each_same _ _ n (λ i h. ap₂ (index_text i) (get_or-take n after i 0 h ∙ answer_at after d i h) (r.each i (let c = count_is in omega arith))))
           ∙ text_by_lem (passed n) e
+
+-- ---- a rule in its table of the second form
+
+module _ (lows highs : List ℕ) where
+  -- the text by the table
+  text_by : Table → Answer ℕ → List ℕ
+  text_by t (passed n) = lines_text n (λ i. byte_of (truth_at (states_of lows) (states_of highs) (rule_of t) i)) (λ i. (reason_at (states_of lows) (states_of highs) (rule_of t) i).registers)
+  text_by t (refused q i) = refused_text q i
+
+  by_table : (form : Form) (rule : List ℕ) (a : Answer ℕ) → answer_text form rule lows highs a ≡ text_by (table_of form rule) a
+  unfolding text_by rule_truth depends_on
+  by_table form rule (passed n) = refl
+  by_table form rule (refused q i) = refl
+
+  pub text_widen : (rule : List ℕ) → length rule ≤ 32 → limits_text form64 (widen_rule rule) lows highs ≡ limits_text form32 rule lows highs
+  unfolding limits_text limiting check_limits
+  text_widen rule few =
+      let c = check_widen rule few in
+      let t = table_widen rule in
+      by_table form64 (widen_rule rule) _
+      ∙ ap₂ (λ (u : Table) (q : Checked). text_by u ((q then question14 lows then question14 highs then question22 lows highs
+      then question13 lows (replicate (state_count lows) 0) then question15 lows then question15 highs then question23 lows highs) then passed (state_count lows))) t c
+      ∙ sym (by_table form32 rule _)
 
 -- ---- the lows and the highs as they were loaded
 

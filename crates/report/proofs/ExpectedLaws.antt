@@ -1,5 +1,6 @@
 -- The words for what may stand at a place (`specs/Compiled.antt`).
 --     item_stands, item_not        one of them, where it may stand and where not
+--     candidate_count              how many there are
 --     short_at, pair_at, each_begins, each_goes_on      one after another
 --     expected_none, expected_some      within a word, and elsewhere
 -- Assumes nothing.
@@ -31,6 +32,10 @@ item_not b shown at o e = filled_is (ap (λ c. cond c (space ∷ shown) []) (sym
 
 abbrev pub candidate_at : ℕ → Candidate
 candidate_at k = get_or candidates k (itself [])
+
+pub candidate_count : length candidates ≡ 18
+unfolding candidates
+candidate_count = refl
 
 -- ---- one after another
 

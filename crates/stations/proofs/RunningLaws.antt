@@ -134,7 +134,7 @@ module _ (form : Form) (budget : ℕ) (s : Four Station) (allowance : ℕ) where
 
     module _ (goes : (ltb p.counts.turns budget && ltb p.counts.passes 4) ≡ true) (n : Progress) (gs : Four (List ℕ))
         (e : progress_of n gs ≡ turn form s (progress_of p hs)) where
-      in_run_turns : n.counts.turns ≡ suc p.counts.turns
+      pub in_run_turns : n.counts.turns ≡ suc p.counts.turns
       in_run_turns = ap (λ (x : stationed.Progress). x.turns) e ∙ turns_turn form s (progress_of p hs)
 
       pub in_run_next : InRun n gs

@@ -32,7 +32,7 @@ unfolding stack_of
 stack_length_lem st zero = refl
 stack_length_lem st (suc n) = ap suc (stack_length_lem st n)
 
-stack_set : (st : List Pending) (n i : ℕ) (x : Pending) → n ≤ i → stack_of (set st i x) n ≡ stack_of st n
+pub stack_set : (st : List Pending) (n i : ℕ) (x : Pending) → n ≤ i → stack_of (set st i x) n ≡ stack_of st n
 unfolding stack_of
 stack_set st zero i x h = refl
 stack_set st (suc n) i x h = ap₂ ◌∷◌ (ap entry_of (get_or-set_other st i n x no_word (omega arith))) (stack_set st n i x (omega arith))

@@ -1,6 +1,6 @@
 -- The loop that writes a text's nodes (`specs/Progress.antt`).
 --     Writing                    what is put and owed so far, and the tokens that are left, make the table
---     writing_start, writing-token, writing_many, writing_ready, writing_next, writing_stuck, writing_end
+--     writing_start, writing_many, writing_ready, writing_next, writing_stuck, writing_end
 -- Assumes nothing.
 use mathlib.Core.Path.{◌≡◌, refl, sym, subst, ap, ap₂, ◌∙◌}
 use mathlib.Core.Bool.{true, false}

@@ -1,5 +1,5 @@
 -- The code of a node with a work bit, part after part.
---     deciding_some                              deciding takes at least a line
+--     deciding_in, deciding_some                 into any output of the same length; deciding takes at least a line
 --     length_left                                how many lines precede a since node's setting
 --     end_few, end_size, end_left                the rest of a since node's code
 --     since_space, weak_space, shared_space      the lines that a node's code takes: there is room for them
@@ -31,6 +31,22 @@ use Rattle.rule.proofs.NodeLaws.{node_at_lem}
 use Rattle.facts.specs.Written.{Space}
 use Rattle.spec.proofs.BoolLaws.{clash}
 use Rattle.weaver.proofs.DecisionLaws.{size_some}
+
+-- a node can be decided into any output of the same length
+pub deciding_in : (rule sizes : List ℕ) (shared : ℕ) (k base place on_true on_false : ℕ) (out after : List ℕ) → length after ≡ length out
+    → Deciding rule sizes shared false k base place on_true on_false out → Deciding rule sizes shared false k base place on_true on_false after
+deciding_in rule sizes shared k base place on_true on_false out after e d =
+    let o = d.in_output in
+    record {
+      sized = d.sized;
+      shared_is = d.shared_is;
+      is_node = d.is_node;
+      true_line = d.true_line;
+      false_line = d.false_line;
+      in_script = d.in_script;
+      from_base = d.from_base;
+      in_output = omega arith;
+    }
 
 pub deciding_some : (rule sizes : List ℕ) (shared : ℕ) (k base place on_true on_false : ℕ) (out : List ℕ) → Deciding rule sizes shared false k base place on_true on_false out
     → 0 < decide_size (table_in rule) k
