@@ -3,18 +3,14 @@
 --     low_length_no, high_length_no, lengths_no, room_no, lengths_yes, lengths_same     what is asked of the lengths
 --     limits_are                                                   the two groups after the rule's questions are the request's order
 -- Assumes nothing.
-use mathlib.Core.Path.{◌≡◌, refl, sym, ap, ap₂, ◌∙◌}
+use mathlib.Core.Path.{◌≡◌, sym, ap, ◌∙◌}
 use mathlib.Core.Bool.{Bool, true, ◌&&◌}
 use mathlib.Core.List.{List}
 use native.Mathlib.Omega.{arith}
-use Prim.Native.Nat.{ℕ, zero, suc, ◌/◌, ◌%◌, ◌≤◌, ◌<◌}
-use lib.ListN.{length, get_or, take}
+use Prim.Native.Nat.{ℕ, ◌/◌, ◌%◌, ◌≤◌, ◌<◌}
+use lib.ListN.{length, get_or}
 use lib.Dec.{eqb, leb}
 use borrow.Author.Tests.{eqb-true, eq-eqb, ne_eqb, le-leb, lt-leb}
-use native.Mathlib.Nat.{le_refl}
-use native.Mathlib.Numerals.{add-one}
-use Rattle.std.proofs.lemmas.List.{take_all}
-use Rattle.std.proofs.lemmas.List.Sums.{fold_more}
 use Rattle.std.proofs.lemmas.Slice.Zip.{length-zip, get_or-zip}
 use Rattle.std.specs.List.{fold, zip}
 use Rattle.spec.specs.Questions.{passed, refused, ◌then◌, all_below}
@@ -22,6 +18,7 @@ use Rattle.spec.specs.Rule.{Form, check_rule}
 use Rattle.spec.specs.Judging.{question14, question15}
 use Rattle.spec.proofs.QuestionLaws.{then_passed, then_refused, both_passed, then_assoc, once_in, once_no, once_out, ask_in, below_out, scanned_up, scan_no}
 use Rattle.intervals.specs.Limits.{question22, question13, question23, check_limits}
+use Rattle.rule.proofs.NumberLaws.{fold_below}
 use Rattle.limits.specs.Questions.{check_lengths, check_values, InOrder, FirstAbove}
 
 -- what 23 asks of position i
@@ -35,18 +32,11 @@ module _ (lows highs : List ℕ) (same : length lows ≡ length highs) where
   pair_at : (k : ℕ) → k < length lows → get_or (zip lows highs) k (0, 0) ≡ (get_or lows k 0, get_or highs k 0)
   pair_at k h = get_or-zip lows highs k (0, 0) h (omega arith)
 
-  -- whether the first n pairs are in order
-  ordered_to : (n : ℕ) → n ≤ length lows → fold (λ b (p : ℕ × ℕ). b && leb p.0 p.1) true (take n (zip lows highs)) ≡ all_below n (in_order lows highs)
-  unfolding all_below
-  ordered_to zero h = refl
-  ordered_to (suc n) h =
-      rw (← add-one n) (fold_more (λ b (p : ℕ × ℕ). b && leb p.0 p.1) true (zip lows highs) n (0, 0) (omega (arith, pairs)))
-      ∙ ap₂ (λ b (p : ℕ × ℕ). b && leb p.0 p.1) (ordered_to n (omega arith)) (pair_at n (omega arith))
-
   pub all_are : (b : Bool) → b ≡ fold (λ b (p : ℕ × ℕ). b && leb p.0 p.1) true (zip lows highs) → b ≡ all_below (length lows) (in_order lows highs)
   all_are b e =
-      e ∙ ap (fold (λ b (p : ℕ × ℕ). b && leb p.0 p.1) true) (sym (take_all (length lows) (zip lows highs) (omega (arith, pairs))))
-      ∙ ordered_to (length lows) (le_refl (length lows))
+      fold_below (λ (p : ℕ × ℕ). leb p.0 p.1) (0, 0) (zip lows highs) (in_order lows highs)
+      (λ k h. ap (λ (p : ℕ × ℕ). leb p.0 p.1) (pair_at k (omega (arith, pairs)))) b e
+      ∙ ap (λ n. all_below n (in_order lows highs)) pairs
 
 module _ (lows highs : List ℕ) where
   ordered_at : (n : ℕ) → InOrder lows highs n → (k : ℕ) → k < n → in_order lows highs k ≡ true

@@ -4,20 +4,16 @@
 --     fits_is         whether each of the registers' words has at most 16 bits
 --     Noted, step_short, step_large, step_made      what a step hands back, made or not
 -- Assumes nothing.
-use mathlib.Core.Path.{◌≡◌, refl, sym, ap, ap₂, fun_ext, ◌∙◌}
+use mathlib.Core.Path.{◌≡◌, sym, ap, ap₂, fun_ext, ◌∙◌}
 use mathlib.Core.List.{List, [], ◌∷◌, ◌++◌, append_assoc}
 use mathlib.Core.Logic.{inl, inr}
 use mathlib.Core.Bool.{Bool, true, false, cond, ◌&&◌}
-use Prim.Native.Nat.{ℕ, zero, suc, ◌+◌, ◌^◌, ◌<◌, ◌≤◌}
+use Prim.Native.Nat.{ℕ, ◌+◌, ◌^◌, ◌<◌, ◌≤◌}
 use native.Mathlib.Omega.{arith}
-use native.Mathlib.Nat.{le_refl}
-use native.Mathlib.Numerals.{add-one}
 use lib.Dec.{leb}
 use lib.ListN.{length, get_or, take, drop, length-drop}
 use lib.Seq.{length-take-le, drop-append_seam, get_or-take, get_or-drop}
 use Rattle.std.specs.List.{fold}
-use Rattle.std.proofs.lemmas.List.{take_all}
-use Rattle.std.proofs.lemmas.List.Sums.{fold_more}
 use Rattle.spec.specs.Questions.{all_below}
 use Rattle.spec.specs.Rule.{Form}
 use Rattle.spec.specs.Check.{fact_word}
@@ -25,6 +21,7 @@ use Rattle.spec.specs.Ready.{MachineState}
 use Rattle.spec.proofs.BoolLaws.{le_or_lt}
 use Rattle.spec.proofs.StoredLaws.{word_small, nodes_stored, no_nodes_lem}
 use Rattle.sets.specs.Sets.{set_of}
+use Rattle.rule.proofs.NumberLaws.{fold_below}
 use Rattle.machine.specs.declared.Machine.{Machine}
 use Rattle.machine.specs.declared.ready.Readiness.{Readiness}
 use Rattle.machine.specs.Machines.{machine_of, readiness_of}
@@ -78,18 +75,11 @@ module _ (s : List ℕ) (long : 25 ≤ length s) where
   word_is : (k : ℕ) → k < 16 → get_or words k 0 ≡ get_or s (5 + k) 0
   word_is k h = get_or-take 16 (drop 5 s) k 0 h ∙ get_or-drop 5 s k 0
 
-  -- whether the first n of them fit
-  fit_to : (n : ℕ) → n ≤ 16 → fold (λ b w. b && leb w 65535) true (take n words) ≡ all_below n fit
-  unfolding all_below
-  fit_to zero h = refl
-  fit_to (suc n) h =
-      rw (← add-one n) (fold_more (λ b w. b && leb w 65535) true words n 0 (omega (arith, sixteen)))
-      ∙ ap₂ (λ b w. b && leb w 65535) (fit_to n (omega arith)) (word_is n (omega arith))
-
   pub fits_is : (b : Bool) → b ≡ fold (λ b w. b && leb w 65535) true words → b ≡ registers_fit s
   unfolding registers_fit
   fits_is b e =
-      e ∙ ap (fold (λ b w. b && leb w 65535) true) (sym (take_all 16 words (omega (arith, sixteen)))) ∙ fit_to 16 (le_refl 16)
+      fold_below (λ w. leb w 65535) 0 words fit (λ k h. ap (λ w. leb w 65535) (word_is k (omega (arith, sixteen)))) b e
+      ∙ ap (λ n. all_below n fit) sixteen
 
 -- ---- whether a step is made
 

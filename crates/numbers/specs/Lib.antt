@@ -1,4 +1,3 @@
 pub mod Numbers
-pub mod Refused
 pub mod States
 pub mod Stations

@@ -1,5 +1,5 @@
 -- Answers as numbers: what a function hands back, and the words that it writes at the start of lent memory.
-use Rattle.std.specs.Prelude.{Bool, cond, List, [], ◌∷◌, ◌++◌, ℕ, length, drop, leb}
+use Rattle.std.specs.Prelude.{Bool, cond, List, [], ◌∷◌, ◌++◌, ℕ, length, drop, leb, Result, Ok, Err}
 use Rattle.spec.specs.Questions.{Answer, passed, refused, Checked}
 use Rattle.spec.specs.Judging.{Verdict, breach, clean}
 use Rattle.spec.specs.Machine.{Stop, halted, spent, dry, full, Report}
@@ -28,6 +28,11 @@ number_of (refused q i) = q
 abbrev pub place_of : {A : Type 0} → Answer A → ℕ
 place_of (passed x) = 0
 place_of (refused q i) = i
+
+-- a count, or a refusal with any number and a place
+abbrev pub counted_by : Result ℕ (ℕ × ℕ) → Answer ℕ
+counted_by (Ok n) = passed n
+counted_by (Err r) = refused r.0 r.1
 
 -- what a function hands back that needs n lent words
 unfoldable pub result_for : {A : Type 0} (n : ℕ) (lent : List ℕ) → Answer A → ℕ

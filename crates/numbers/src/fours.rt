@@ -37,7 +37,7 @@ fn note_stations(a: Result<Ran, Refusal>, numbers: &mut [u64]) -> u32
             numbers[2] = ran.left;
             0
         }
-        Err(refusal) => note_refusal(refusal, 3, numbers),
+        Err(no) => note_refusal(u32::from(no.question), no.place, 3, numbers),
     }
 }
 

@@ -1,78 +1,54 @@
 // Answers as numbers in lent words. Each kind has a function of its own: what a yes writes differs at each, and a refusal's words are one function's.
-ghost use Rattle.std.specs.Prelude.{◌≡◌, ◌∷◌, [], ◌++◌, ℕ, ◌+◌, ◌-◌, ◌≤◌, length, take, drop, replicate, Result};
-ghost use Rattle.spec.specs.Questions.{Answer, passed};
-ghost use Rattle.rule.specs.Answers.{number_of as question_number, answer_of, counted_of, verdict_of};
+ghost use Rattle.std.specs.Prelude.{◌≡◌, ◌∷◌, [], ◌++◌, ℕ, ◌+◌, ◌-◌, ◌≤◌, length, take, drop, replicate, Result, Ok, Err, refl};
+ghost use Rattle.spec.specs.Questions.{Answer, passed, refused};
+ghost use Rattle.rule.specs.Answers.{answer_of, counted_of, verdict_of};
 ghost use Rattle.machine.specs.Runs.{stop_of, report_in};
-ghost use Rattle.numbers.specs.Numbers.{number_of, checked_words, count_words, verdict_words, stop_number, report_words};
-ghost use Rattle.numbers.specs.Refused.{Said, counted_by, said_of_question, said_of_number};
+ghost use Rattle.numbers.specs.Numbers.{number_of, counted_by, checked_words, count_words, verdict_words, stop_number, report_words};
 
 use machine::answer::{RunAnswer, Stop};
 use rule::answer::{Refusal, Verdict};
 
-// A refusal as it is noted: by the number of its question, and its place.
+// A refusal that is noted: by the number of its question, and its place.
 pub trait Numbered: Copy {
-    ghost number: { Self → ℕ };
-
-    ghost place: { Self → ℕ };
-
     // A count, or such a refusal, as the specification's answer.
     ghost counted: { Result ℕ Self → Answer ℕ };
 
-    fn question_number(self) -> u32
-        ensures { result ≡ number self };
+    fn numbered(self) -> (u32, usize)
+        ensures { counted (Err self) ≡ refused result.0 result.1 };
 
-    fn question_place(self) -> usize
-        ensures { result ≡ place self };
-
-    ghost said: { Said number place counted };
+    ghost passes: { (n : ℕ) → counted (Ok n) ≡ passed n };
 }
 
 impl Numbered for Refusal {
-    ghost number = { λ r. question_number r.question };
-
-    ghost place = { λ r. r.place };
-
     ghost counted = { counted_of };
 
-    fn question_number(self) -> u32 {
-        u32::from(self.question)
+    fn numbered(self) -> (u32, usize) {
+        (u32::from(self.question), self.place)
     }
 
-    fn question_place(self) -> usize {
-        self.place
-    }
-
-    ghost said = { said_of_question };
+    ghost passes = { λ n. refl };
 }
 
-// A number and a place: any number, whether a question has it or not.
+// Any number, whether a question has it or not, and a place.
 impl Numbered for (u32, usize) {
-    ghost number = { λ r. r.0 };
-
-    ghost place = { λ r. r.1 };
-
     ghost counted = { counted_by };
 
-    fn question_number(self) -> u32 {
-        self.0
+    fn numbered(self) -> (u32, usize) {
+        (self.0, self.1)
     }
 
-    fn question_place(self) -> usize {
-        self.1
-    }
-
-    ghost said = { said_of_number };
+    ghost passes = { λ n. refl };
 }
 
 // A refusal's words are n: its place, and zeros. The question's number is handed back.
-pub(crate) fn note_refusal<E: Numbered>(refusal: E, n: usize, numbers: &mut [u64]) -> u32
+pub(crate) fn note_refusal(question: u32, place: usize, n: usize, numbers: &mut [u64]) -> u32
     requires { (1 ≤ n) × (n ≤ length numbers.old) }
-    ensures result { result ≡ E.number refusal }
-    ensures words { numbers.new ≡ E.place refusal ∷ replicate (n - 1) 0 ++ drop n numbers.old }
+    ensures result { result ≡ question }
+    ensures words { numbers.new ≡ place ∷ replicate (n - 1) 0 ++ drop n numbers.old }
 {
     numbers[..n].fill(0);
-    numbers[0] = refusal.question_place() as u64;
-    refusal.question_number()
+    numbers[0] = place as u64;
+    question
 }
 
 // The number handed back; the place is written.
@@ -86,7 +62,7 @@ pub fn note_place(a: Result<(), Refusal>, numbers: &mut [u64]) -> u32
             numbers[0] = 0;
             0
         }
-        Err(refusal) => note_refusal(refusal, 1, numbers),
+        Err(no) => note_refusal(u32::from(no.question), no.place, 1, numbers),
     }
 }
 
@@ -102,7 +78,10 @@ pub fn note_count<E: Numbered>(w: Result<usize, E>, numbers: &mut [u64]) -> u32
             numbers[1] = n as u64;
             0
         }
-        Err(refusal) => note_refusal(refusal, 2, numbers),
+        Err(refusal) => {
+            let (question, place) = refusal.numbered();
+            note_refusal(question, place, 2, numbers)
+        }
     }
 }
 
@@ -132,7 +111,7 @@ pub fn note_verdict(v: Result<Verdict, Refusal>, numbers: &mut [u64]) -> u32
             note_four(0, 0, 0, states as u64, numbers);
             0
         }
-        Err(refusal) => note_refusal(refusal, 4, numbers),
+        Err(no) => note_refusal(u32::from(no.question), no.place, 4, numbers),
     }
 }
 
@@ -174,6 +153,6 @@ pub fn note_report(a: Result<RunAnswer, Refusal>, numbers: &mut [u64]) -> u32
             note_registers(ran.registers, 6, numbers);
             0
         }
-        Err(refusal) => note_refusal(refusal, 22, numbers),
+        Err(no) => note_refusal(u32::from(no.question), no.place, 22, numbers),
     }
 }
