@@ -1,10 +1,10 @@
 -- A machine's words (`specs/States.antt`).
 --     bits_word       the word of a word's nodes is that word
 --     words_of, ready_words, put_words     a machine's words, and those of its readiness
---     fits_is         whether each of the registers' words has at most 16 bits
+--     fits_is, fits_fold     whether each of the registers' words has at most 16 bits, asked by `all` and by a fold
 --     Noted, step_short, step_large, step_made      what a step hands back, made or not
 -- Assumes nothing.
-use mathlib.Core.Path.{◌≡◌, sym, ap, ap₂, fun_ext, ◌∙◌}
+use mathlib.Core.Path.{◌≡◌, refl, sym, subst, ap, ap₂, fun_ext, ◌∙◌}
 use mathlib.Core.List.{List, [], ◌∷◌, ◌++◌, append_assoc}
 use mathlib.Core.Logic.{inl, inr}
 use mathlib.Core.Bool.{Bool, true, false, cond, ◌&&◌}
@@ -13,12 +13,14 @@ use native.Mathlib.Omega.{arith}
 use lib.Dec.{leb}
 use lib.ListN.{length, get_or, take, drop, length-drop}
 use lib.Seq.{length-take-le, drop-append_seam, get_or-take, get_or-drop}
-use Rattle.std.specs.List.{fold}
+use Rattle.std.specs.Bool.{MatchBool}
+use Rattle.std.specs.List.{AllWithin, HoldsAt, fold}
 use Rattle.spec.specs.Questions.{all_below}
 use Rattle.spec.specs.Rule.{Form}
 use Rattle.spec.specs.Check.{fact_word}
 use Rattle.spec.specs.Ready.{MachineState}
-use Rattle.spec.proofs.BoolLaws.{le_or_lt}
+use Rattle.spec.proofs.BoolLaws.{le_or_lt, clash}
+use Rattle.spec.proofs.QuestionLaws.{below_in, below_out}
 use Rattle.spec.proofs.StoredLaws.{word_small, nodes_stored, no_nodes_lem}
 use Rattle.sets.specs.Sets.{set_of}
 use Rattle.rule.proofs.NumberLaws.{fold_below}
@@ -75,9 +77,22 @@ module _ (s : List ℕ) (long : 25 ≤ length s) where
   word_is : (k : ℕ) → k < 16 → get_or words k 0 ≡ get_or s (5 + k) 0
   word_is k h = get_or-take 16 (drop 5 s) k 0 h ∙ get_or-drop 5 s k 0
 
-  pub fits_is : (b : Bool) → b ≡ fold (λ b w. b && leb w 65535) true words → b ≡ registers_fit s
+  unfit : (b : Bool) → all_below 16 fit ≡ b → (k : ℕ) → k < 16 → fit k ≡ false → false ≡ b
+  unfit true e k h d = clash (below_out 16 fit e k h) d
+  unfit false e k h d = refl
+
+  pub fits_is : (b : Bool)
+      → MatchBool b (AllWithin (λ x. x ≤ 65535) words 0 (length words)) ((k : ℕ) × (k < length words) × HoldsAt (λ x. 65535 < x) words k)
+      → b ≡ registers_fit s
   unfolding registers_fit
-  fits_is b e =
+  fits_is true h = sym (below_in 16 fit (λ k l. le-leb _ _ (subst (λ x. x ≤ 65535) (word_is k l) (h k 0 (omega arith) (omega (arith, sixteen))))))
+  fits_is false h =
+      let l : h.0 < 16 = omega (arith, sixteen, h.1) in
+      unfit (all_below 16 fit) refl h.0 l (lt-leb _ _ (subst (λ x. 65535 < x) (word_is h.0 l) (h.2 0)))
+
+  pub fits_fold : (b : Bool) → b ≡ fold (λ b w. b && leb w 65535) true words → b ≡ registers_fit s
+  unfolding registers_fit
+  fits_fold b e =
       fold_below (λ w. leb w 65535) 0 words fit (λ k h. ap (λ w. leb w 65535) (word_is k (omega (arith, sixteen)))) b e
       ∙ ap (λ n. all_below n fit) sixteen
 
